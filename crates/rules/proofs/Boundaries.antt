@@ -15,7 +15,7 @@ use Rattle.std.proofs.shelf.Tests.{cases-bool, and-parts, cases-eq, cases-lt, a
 use Rattle.rules.specs.Rules.{Rule, In, Covers, covers, earlier}
 use Rattle.rules.specs.Search.{best, closer, same?}
 use Rattle.rules.specs.Conflicts.{resolved-at, resolved-in, resolved-from, Resolved-at, Resolved-in}
-use Rattle.rules.specs.Boundaries.{nearer, nearest, next-boundary, Boundary, Least-boundary}
+use Rattle.rules.specs.Boundaries.{nearer, nearest, next-boundary, walk, Boundary, Least-boundary}
 use Rattle.rules.proofs.Conflicts.{resolved-at-decides, resolved-in-decides}
 use Rattle.rules.proofs.Search.{none≢some}
 
@@ -102,6 +102,21 @@ stretch last R d h = (
   (λ e k a b. resolved-at-decides R k .0 (sym (resolved-at-same last R d k a b) ∙ e)),
   λ f. resolved-at-decides R d .1 (f d (omega arith) (boundary-past last R d h)),
 )
+
+pub walk-decides : (n : ℕ) (R : List Rule) (d v : ℕ) → d ≤ v → v < d + n → Decides (walk n R d v) (Resolved-in R d v)
+unfolding walk
+walk-decides zero R d v h l = absurd (omega arith)
+walk-decides (suc n) R d v h l = go (next-boundary v R d) (stretch v R d h) (boundary-past v R d h) (boundary-within v R d) (λ e a b c. walk-decides n R e v b c)
+  where
+    go : (o : Option ℕ) → Decides (resolved-at R d) ((k : ℕ) → d ≤ k → k < upto v o → Resolved-at R k) → d < upto v o → Within v d o
+        → ((e : ℕ) → d < e → e ≤ v → v < e + n → Decides (walk n R e v) (Resolved-in R e v))
+        → Decides (resolved-at R d && elim o [ None ↦ true | Some e ↦ walk n R e v ]) (Resolved-in R d v)
+    go None s p q ih = ((λ e k a b. s .0 (and-parts (resolved-at R d) true e .0) k a (omega arith)), λ f. and-from (resolved-at R d) true (s .1 (λ k a b. f k a (omega arith))) refl)
+    go (Some e) s p q ih =
+        decides-like (resolved-at R d && walk n R e v)
+        (λ f k a b. elim (cases-lt k e) [ inl c ↦ f .0 k a c | inr c ↦ f .1 k c b ])
+        (λ f. ((λ k a b. f k a (omega arith)), λ k a b. f k (omega arith) b))
+        (decides-and (resolved-at R d) (walk n R e v) s (ih e p (q .1) (omega arith)))
 
 -- and it is a boundary
 pub boundary-is : (last : ℕ) (R : List Rule) (d e : ℕ) → next-boundary last R d ≡ Some e → Boundary R e

@@ -12,10 +12,10 @@ use Rattle.std.specs.Orderings.{Decides}
 use Rattle.std.proofs.shelf.Ways.{tells, decides-and, decides-like}
 use Rattle.std.proofs.shelf.Tests.{cases-eq, cases-lt}
 use Rattle.rules.specs.Rules.{Rule, range, In, Covers, Inside, Same, Absent, Canonical, earlier, same, covers, insert, delete}
-use Rattle.rules.specs.Search.{Best, best, closer, least-finish, greatest-start, Least, same?}
-use Rattle.rules.specs.Conflicts.{Cross, Filled, Most-specific, Covered, Resolved-at, Resolved-in, Conflict-free, All-filled, most-specific, resolved-at, resolved-from, resolved-in}
+use Rattle.rules.specs.Search.{Best, best, closer, least-finish, greatest-start, Least, same?, agree}
+use Rattle.rules.specs.Conflicts.{Cross, Filled, Most-specific, Covered, Resolved-at, Resolved-in, Conflict-free, All-filled, Conflicting, most-specific, resolved-at, resolved-from, resolved-in}
 use Rattle.rules.proofs.Members.{covers-tells, same-tells, in-same, in-insert-old, in-insert-new, in-insert-keep, in-delete, in-delete-keep}
-use Rattle.rules.proofs.Search.{best-is, earlier-ranks, closer-ranks, same?-decides, agree-least, least-agree, cases-some}
+use Rattle.rules.proofs.Search.{best-is, earlier-ranks, closer-ranks, same?-decides, agree-least, least-agree, no-inner, none≢some}
 
 pub decides-covers : (d : ℕ) (r : Rule) → Decides (covers r d) (Covers r d)
 decides-covers d r = ((λ e. grind (arith, tells)), λ c. grind (arith, tells))
@@ -25,9 +25,6 @@ least-finish-is R d = best-is earlier earlier-ranks (λ r. covers r d) (λ r. Co
 
 pub greatest-start-is : (R : List Rule) (d : ℕ) → Best closer (λ r. Covers r d) R (greatest-start R d)
 greatest-start-is R d = best-is closer closer-ranks (λ r. covers r d) (λ r. Covers r d) (decides-covers d) R
-
-pub cases-covered : (R : List Rule) (d : ℕ) → Covered R d ⊎ (Covered R d → ⊥)
-cases-covered R d = cases-some (λ r. covers r d) (λ r. Covers r d) (decides-covers d) R
 
 pub most-specific-sound : (R : List Rule) (d : ℕ) (r : Rule) → most-specific R d ≡ Some r → Most-specific R d r
 most-specific-sound R d = agree-least (λ r. covers r d) (λ r. Covers r d) (decides-covers d) R
@@ -62,9 +59,6 @@ inside-by-addresses r s w f = (f (r .start) (omega arith) .0, f (r .finish) (ome
 pub inside-all : (r s : Rule) → Inside r s → (d : ℕ) → Covers r d → Covers s d
 inside-all r s i d c = omega arith
 
-pub cross-ends : (r s : Rule) → Cross r s → ((r .start < s .start) × (s .start ≤ r .finish) × (r .finish < s .finish)) ⊎ ((s .start < r .start) × (r .start ≤ s .finish) × (s .finish < r .finish))
-cross-ends r s x = let a = x .0 .1 in grind arith
-
 -- conflict-free iff every crossing pair is filled
 pub filled-from-free : (R : List Rule) → Conflict-free R → All-filled R
 filled-from-free R free r s h k x d a b =
@@ -91,13 +85,6 @@ free-at R d fill (Some f) (Some s) bf bs c = go (same-tells f s)
 
 pub free-from-filled : (R : List Rule) → All-filled R → Conflict-free R
 free-from-filled R fill d = free-at R d fill (least-finish R d) (greatest-start R d) (least-finish-is R d) (greatest-start-is R d)
-
--- a part of R that keeps the most-specific of each address that it covers, as the rules within a range do
-pub part-free : (R S : List Rule) → ((s : Rule) → In s S → In s R) → ((s t : Rule) → In s S → In t R → Inside t s → In t S) → Conflict-free R → Conflict-free S
-part-free R S f g free d c =
-    let t = free d (c .0, (f (c .0) (c .1 .0), c .1 .1)) in
-    let i = t .1 in
-    (t .0, record { held = g (c .0) (t .0) (c .1 .0) (i .held) (i .least (c .0) (f (c .0) (c .1 .0)) (c .1 .1)); fits = i .fits; least = λ s h k. i .least s (f s h) k })
 
 -- locality: an address that r does not cover has what it had
 pub resolved-insert-away : (R : List Rule) (r : Rule) (d : ℕ) → Absent r R → (Covers r d → ⊥) → Resolved-at R d → Resolved-at (insert r R) d
@@ -126,3 +113,88 @@ insert-decides R r free a = free-by-parts (insert r R) (r .start) (r .finish) (�
 
 pub delete-decides : (R : List Rule) (u v : ℕ) → Conflict-free R → Decides (resolved-in (delete u v R) u v) (Conflict-free (delete u v R))
 delete-decides R u v free = free-by-parts (delete u v R) u v (λ d n. resolved-delete-away R u v d n (free d))
+
+-- where the test fails, the two rules that the searches find cross, and no rule fills what they share
+conflicting-at : (R : List Rule) (d : ℕ) (f s : Option Rule) → Best earlier (λ r. Covers r d) R f → Best closer (λ r. Covers r d) R s → same? f s ≡ false → Conflicting R
+conflicting-at R d None s bf bs e = absurd (let z : _≡_ {A = ℕ} 0 1 = cc in omega arith)
+conflicting-at R d (Some f) None bf bs e = absurd (bs f (bf .0) (bf .1))
+conflicting-at R d (Some f) (Some s) bf bs e =
+    let a = bf .2 s (bs .0) (bs .1) in
+    let b = bs .2 f (bf .0) (bf .1) in
+    let x : Cross f s = ((d, (bf .1, bs .1)), (λ i. grind (arith, tells)), λ i. grind (arith, tells)) in
+    (f, s, (bf .0, bs .0, x, gap))
+  where
+    gap : Filled R f s → ⊥
+    gap fill =
+        let t = fill d (bf .1) (bs .1) in
+        let n = no-inner f s (t .0) (bf .2 (t .0) (t .1 .0) (t .1 .1)) (bs .2 (t .0) (t .1 .0) (t .1 .1)) (t .1 .2) (t .1 .3) in
+        let m : same f s ≡ true = grind (arith, tells) in
+        let z : _≡_ {A = ℕ} 0 1 = cc in
+        omega arith
+
+conflicting-from : (R : List Rule) (n d : ℕ) → resolved-from R d n ≡ false → Conflicting R
+unfolding resolved-from
+conflicting-from R zero d e = absurd (let z : _≡_ {A = ℕ} 0 1 = cc in omega arith)
+conflicting-from R (suc n) d e = go (resolved-at R d) refl (conflicting-from R n (suc d))
+  where
+    go : (b : Bool) → resolved-at R d ≡ b → (resolved-from R (suc d) n ≡ false → Conflicting R) → Conflicting R
+    go true q ih = ih (rw q at e)
+    go false q ih = conflicting-at R d (least-finish R d) (greatest-start R d) (least-finish-is R d) (greatest-start-is R d) q
+
+pub conflicting : (R : List Rule) (u v : ℕ) → resolved-in R u v ≡ false → Conflicting R
+unfolding resolved-in
+conflicting R u v e = conflicting-from R (suc v - u) u e
+
+-- where the two searches find one rule
+pub agree-one : (R : List Rule) → Canonical R → (d : ℕ) (r : Rule) → Most-specific R d r → (least-finish R d ≡ Some r) × (greatest-start R d ≡ Some r)
+agree-one R c d r i = go (least-finish R d) (greatest-start R d) (least-finish-is R d) (greatest-start-is R d) (most-specific-complete R c d r i)
+  where
+    go : (f s : Option Rule) → Best earlier (λ q. Covers q d) R f → Best closer (λ q. Covers q d) R s → agree f s ≡ Some r → (f ≡ Some r) × (s ≡ Some r)
+    go None s bf bs e = absurd (none≢some e)
+    go (Some f) None bf bs e = absurd (none≢some e)
+    go (Some f) (Some s) bf bs e = at (same-tells f s)
+      where
+        at : ((same f s ≡ true) × Same f s) ⊎ ((same f s ≡ false) × (Same f s → ⊥)) → (Some f ≡ Some r) × (Some s ≡ Some r)
+        at (inl p) = let q : f ≡ s = in-same R c f s (bf .0) (bs .0) (p .1) in let k : f ≡ r = cc in (cc, cc)
+        at (inr p) = absurd (let z : _≡_ {A = ℕ} 0 1 = cc in omega arith)
+
+pub one-agree : (R : List Rule) (d : ℕ) (r : Rule) → least-finish R d ≡ Some r → greatest-start R d ≡ Some r → Most-specific R d r
+one-agree R d r e k = let t : same r r ≡ true = grind (arith, tells) in most-specific-sound R d r (rw (e, k, t))
+
+-- every range of R is one of S
+abbrev pub Ranges-in : List Rule → List Rule → Type 0
+Ranges-in R S = (s : Rule) → In s R → (t : Rule) × (In t S × Same s t)
+
+-- what conflicts goes by ranges alone
+pub free-by-ranges : (R S : List Rule) → Ranges-in R S → Ranges-in S R → Conflict-free R → Conflict-free S
+free-by-ranges R S f g free d c = (u .0, record { held = u .1 .0; fits = (let a = i .fits in let e = u .1 .1 in omega arith); least = least })
+  where
+    q : (t : Rule) × (In t R × Same (c .0) t)
+    q = g (c .0) (c .1 .0)
+
+    t : (x : Rule) × Most-specific R d x
+    t = free d (q .0, (q .1 .0, let a = c .1 .1 in let e = q .1 .1 in omega arith))
+
+    i : Most-specific R d (t .0)
+    i = t .1
+
+    u : (x : Rule) × (In x S × Same (t .0) x)
+    u = f (t .0) (i .held)
+
+    least : (s : Rule) → In s S → Covers s d → Inside (u .0) s
+    least s h k =
+        let w = g s h in
+        let e = w .1 .1 in
+        let e′ = u .1 .1 in
+        let m = i .least (w .0) (w .1 .0) (omega arith) in
+        omega arith
+
+-- a held range whose hop is replaced
+pub free-replaced : (R : List Rule) (r x : Rule) → In x R → Same r x → Conflict-free R → Conflict-free (insert r R)
+free-replaced R r x h e free = free-by-ranges R (insert r R) to from free
+  where
+    to : Ranges-in R (insert r R)
+    to s k = elim (same-tells r s) [ inl p ↦ (r, (in-insert-new r R, let q = p .1 in omega arith)) | inr p ↦ (s, (in-insert-keep r R s (p .1) k, omega arith)) ]
+
+    from : Ranges-in (insert r R) R
+    from s k = elim (in-insert-old r R s k) [ inl p ↦ rw p (x, (h, e)) | inr m ↦ (s, (m, omega arith)) ]

@@ -8,6 +8,7 @@ use native.Mathlib.Omega.{arith}
 use lib.Dec.{leb, ltb, eqb}
 use Rattle.std.specs.declared.option.Option.{Option}
 use Rattle.std.specs.declared.option.Option.the-variants.{Some, None}
+use Rattle.std.specs.Options.{isSome}
 use Rattle.std.proofs.shelf.Ways.{tells, leb-tells, eqb-tells}
 use Rattle.std.proofs.shelf.Tests.{cases-bool, and-parts}
 use Rattle.rules.specs.Rules.{Rule, range, In, Covers, Inside, Same, Absent, Earlier, Canonical, earlier, same, covers, insert, delete, hop-of}
@@ -169,3 +170,19 @@ unfolding hop-of
 in-hop [] c r h = elim h [ ]
 in-hop (x ∷ xs) c r (inl e) = grind (arith, tells)
 in-hop (x ∷ xs) c r (inr h) = let k = c .1 r h in let ih = in-hop xs (c .2) r h in grind (arith, tells)
+
+-- hop-of tells whether a range is held
+pub hop-tells : (R : List Rule) (u v : ℕ) → ((isSome (hop-of R u v) ≡ true) × ((x : Rule) × (In x R × Same (range u v) x))) ⊎ ((isSome (hop-of R u v) ≡ false) × Absent (range u v) R)
+unfolding hop-of
+hop-tells [] u v = inr (refl, λ s h e. h)
+hop-tells (x ∷ xs) u v = go (same-tells (range u v) x) (hop-tells xs u v)
+  where
+    go : ((same (range u v) x ≡ true) × Same (range u v) x) ⊎ ((same (range u v) x ≡ false) × (Same (range u v) x → ⊥))
+        → ((isSome (hop-of xs u v) ≡ true) × ((y : Rule) × (In y xs × Same (range u v) y))) ⊎ ((isSome (hop-of xs u v) ≡ false) × Absent (range u v) xs)
+        → ((isSome (hop-of (x ∷ xs) u v) ≡ true) × ((y : Rule) × (In y (x ∷ xs) × Same (range u v) y))) ⊎ ((isSome (hop-of (x ∷ xs) u v) ≡ false) × Absent (range u v) (x ∷ xs))
+    go (inl p) q = inl (rw (p .0), (x, (inl refl, p .1)))
+    go (inr p) (inl q) = inl (rw (p .0) (q .0), (q .1 .0, (inr (q .1 .1 .0), q .1 .1 .1)))
+    go (inr p) (inr q) = inr (rw (p .0) (q .0), λ s h e. elim h [ inl w ↦ p .1 (rw w at e) | inr m ↦ q .1 s m e ])
+
+pub absent-hop : (R : List Rule) (u v : ℕ) → isSome (hop-of R u v) ≡ false → Absent (range u v) R
+absent-hop R u v n = elim (hop-tells R u v) [ inl p ↦ absurd (let a = p .0 in let z : _≡_ {A = ℕ} 0 1 = cc in omega arith) | inr p ↦ p .1 ]

@@ -16,7 +16,7 @@ use Rattle.std.proofs.shelf.Ways.{tells, decides-and, decides-like}
 use Rattle.std.proofs.shelf.Tests.{cases-bool, and-parts, and-from}
 use Rattle.rules.specs.Rules.{Rule, rule, range, In, Same, Absent, Earlier, Canonical, Covers, earlier, same, covers, insert, delete, hop-of, every, ordered}
 use Rattle.rules.specs.Search.{best, better, least-finish, closer}
-use Rattle.rules.specs.Answers.{place-of, put-answer, put-rules}
+use Rattle.rules.specs.Answers.{place-of, put-answer, put-rules, take-answer, take-rules}
 use Rattle.std.specs.declared.result.Result.{Result}
 use Rattle.std.specs.declared.result.Result.the-variants.{Ok, Err}
 use Rattle.std.specs.Results.{isOk}
@@ -195,3 +195,7 @@ put-back room u v h R c w t e =
     let y : same (range u v) (range u v) ≡ true = grind (arith, tells) in
     let n : isSome (hop-of (delete u v R) u v) ≡ false = rw (hop-delete u v R u v, y) in
     rw (← t, n, b) (delete-back u v h R c (sym e))
+
+-- a held range is taken
+pub took : (R : List Rule) (u v h : ℕ) → ltb v u ≡ false → hop-of R u v ≡ Some h → take-rules R u v ≡ delete u v R
+took R u v h t e = let k : isSome (hop-of R u v) ≡ true = rw e in rw (t, k)

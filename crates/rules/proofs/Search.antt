@@ -70,7 +70,7 @@ best-++ lt k p (x ∷ xs) ys = rw (best-++ lt k p xs ys) (better-assoc lt k (con
 least-of-both : (f s q : Rule) → earlier q f ≡ false → closer q s ≡ false → Same f s → Inside f q
 least-of-both f s q p r e = grind (arith, tells)
 
-no-inner : (f s t : Rule) → earlier t f ≡ false → closer t s ≡ false → Inside t f → Inside t s → Same f t × Same s t
+pub no-inner : (f s t : Rule) → earlier t f ≡ false → closer t s ≡ false → Inside t f → Inside t s → Same f t × Same s t
 no-inner f s t p q i j = grind (arith, tells)
 
 pub none≢some : {A : Type 0} {r : A} → None ≡ Some r → ⊥
@@ -118,11 +118,3 @@ module _ (p : Rule → Bool) (P : Rule → Type 0) (each : (x : Rule) → Decide
     same?-to (best earlier p R) (best closer p R) (best-is earlier earlier-ranks p P each R) (best-is closer closer-ranks p P each R),
     same?-from (best earlier p R) (best closer p R) (best-is earlier earlier-ranks p P each R) (best-is closer closer-ranks p P each R),
   )
-
-  -- whether there is one can be told
-  pub cases-some : ((s : Rule) × (In s R × P s)) ⊎ (((s : Rule) × (In s R × P s)) → ⊥)
-  cases-some = go (best earlier p R) (best-is earlier earlier-ranks p P each R)
-    where
-      go : (o : Option Rule) → Best earlier P R o → ((s : Rule) × (In s R × P s)) ⊎ (((s : Rule) × (In s R × P s)) → ⊥)
-      go None b = inr (λ c. b (c .0) (c .1 .0) (c .1 .1))
-      go (Some f) b = inl (f, (b .0, b .1))

@@ -30,3 +30,8 @@ nearest last d b o = cond (ltb d b && leb b last) (Some (nearer b o)) o
 unfoldable pub next-boundary : ℕ → List Rule → ℕ → Option ℕ
 next-boundary last [] d = None
 next-boundary last (x ∷ xs) d = nearest last d (x .start) (nearest last d (suc (x .finish)) (next-boundary last xs d))
+
+-- the test at d and at each boundary from there to v, in at most n steps
+unfoldable pub walk : ℕ → List Rule → ℕ → ℕ → Bool
+walk zero R d v = true
+walk (suc n) R d v = resolved-at R d && elim (next-boundary v R d) [ None ↦ true | Some e ↦ walk n R e v ]

@@ -85,3 +85,7 @@ delete u v (x ∷ xs) = cond (same (range u v) x) (delete u v xs) (x ∷ delete 
 unfoldable pub hop-of : List Rule → ℕ → ℕ → Option ℕ
 hop-of [] u v = None
 hop-of (x ∷ xs) u v = cond (same (range u v) x) (Some (x .hop)) (hop-of xs u v)
+
+-- whether [u, v] goes from the first address to the last
+abbrev pub is-default : ℕ → ℕ → ℕ → Bool
+is-default last u v = eqb u 0 && eqb v last

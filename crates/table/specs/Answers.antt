@@ -10,12 +10,13 @@ use Rattle.std.specs.declared.option.Option.{Option}
 use Rattle.std.specs.declared.option.Option.the-variants.{Some, None}
 use Rattle.std.specs.declared.result.Result.{Result}
 use Rattle.std.specs.declared.result.Result.the-variants.{Ok, Err}
+use Rattle.std.specs.Options.{isSome}
 use Rattle.std.specs.Results.{isOk}
 use Rattle.rules.specs.declared.refusal.Refusal.{Refusal}
-use Rattle.rules.specs.declared.refusal.Refusal.the-variants.{AlreadyMade, Full, Uncovered, Ambiguous}
-use Rattle.rules.specs.Rules.{Rule, rule}
+use Rattle.rules.specs.declared.refusal.Refusal.the-variants.{Backwards, AlreadyMade, DefaultRange, NotHeld, Full, Conflict, Uncovered, Ambiguous}
+use Rattle.rules.specs.Rules.{Rule, rule, insert, delete, hop-of, is-default}
 use Rattle.rules.specs.Search.{least-finish}
-use Rattle.rules.specs.Conflicts.{most-specific, Most-specific, Covered}
+use Rattle.rules.specs.Conflicts.{most-specific, resolved-in, Most-specific, Covered}
 
 -- an answered range with its hop, by numbers
 abbrev pub told-rule : {A : Type 0} → (A → ℕ) → A × A × ℕ → Rule
@@ -46,3 +47,27 @@ lookup-answer R d = told-by (most-specific R d) (least-finish R d)
 abbrev pub Right : List Rule → ℕ → Result Rule Refusal → Type 0
 Right R d (Ok r) = Most-specific R d r
 Right R d (Err e) = ((e ≡ Uncovered) × (Covered R d → ⊥)) ⊎ ((e ≡ Ambiguous) × Covered R d × ((r : Rule) → Most-specific R d r → ⊥))
+
+-- a held range has its hop replaced; another wants a place, and a most specific rule at each of its addresses
+abbrev pub add-answer : ℕ → List Rule → ℕ → ℕ → ℕ → Result (Unit {0}) Refusal
+add-answer capacity R u v h =
+    cond (ltb v u) (Err Backwards)
+    (cond (isSome (hop-of R u v)) (Ok tt)
+    (cond (ltb (length R) capacity)
+    (cond (resolved-in (insert (rule u v h) R) u v) (Ok tt) (Err Conflict))
+    (Err Full)))
+
+abbrev pub add-rules : ℕ → List Rule → ℕ → ℕ → ℕ → List Rule
+add-rules capacity R u v h = cond (isOk (add-answer capacity R u v h)) (insert (rule u v h) R) R
+
+-- a held range other than the default may go if each of its addresses that is still covered then has a most specific rule
+abbrev pub remove-answer : ℕ → List Rule → ℕ → ℕ → Result (Unit {0}) Refusal
+remove-answer last R u v =
+    cond (ltb v u) (Err Backwards)
+    (cond (is-default last u v) (Err DefaultRange)
+    (cond (isSome (hop-of R u v))
+    (cond (resolved-in (delete u v R) u v) (Ok tt) (Err Conflict))
+    (Err NotHeld)))
+
+abbrev pub remove-rules : ℕ → List Rule → ℕ → ℕ → List Rule
+remove-rules last R u v = cond (isOk (remove-answer last R u v)) (delete u v R) R

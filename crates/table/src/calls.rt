@@ -1,11 +1,13 @@
 //! The calls of a table. A table is any store under these calls, also one that was filled by direct puts.
 
 ghost use mathlib.Core.Path.{_≡_};
-ghost use Rattle.table.specs.Answers.{found, make-answer, make-rules, lookup-answer, Right};
+ghost use Rattle.table.specs.Answers.{found, make-answer, make-rules, lookup-answer, Right, add-answer, add-rules, remove-answer, remove-rules};
+use crate::resolution::resolved_between;
 use crate::resolution::same_range;
 use address::AddressKind;
 use rules::RangeStore;
 use rules::Refusal;
+use rules::is_default;
 
 /// A store as a table of rules.
 pub trait Table: RangeStore {
@@ -19,6 +21,46 @@ pub trait Table: RangeStore {
             return Err(Refusal::AlreadyMade);
         }
         self.put(Self::Kind::first(), Self::Kind::last(), hop)
+    }
+
+    /// Enters a range, or replaces the hop of a held one. Refuses `Backwards`, then, for a range that is not held, `Full`, and `Conflict` unless
+    /// every address of the range then has a most specific rule.
+    fn add(&mut self, start: Self::Kind, finish: Self::Kind, hop: u16) -> Result<(), Refusal>
+        ensures answer { λ r. ⌜ r ≡ add-answer (Self·RangeStore .capacity (now (self .entry))) (Self·RangeStore .rules (now (self .entry))) (Kind·AddressKind .num start) (Kind·AddressKind .num finish) hop ⌝ }
+        ensures after { λ _. ⌜ Self·RangeStore .rules (now (self .exit)) ≡ add-rules (Self·RangeStore .capacity (now (self .entry))) (Self·RangeStore .rules (now (self .entry))) (Kind·AddressKind .num start) (Kind·AddressKind .num finish) hop ⌝ }
+        ensures room { λ _. ⌜ Self·RangeStore .capacity (now (self .exit)) ≡ Self·RangeStore .capacity (now (self .entry)) ⌝ }
+    {
+        let held = self.hop_of(start, finish).is_some();
+        self.put(start, finish, hop)?;
+        if held || resolved_between(self, start, finish) {
+            return Ok(());
+        }
+        let _ = self.take(start, finish);
+        Err(Refusal::Conflict)
+    }
+
+    /// Takes a range out. Refuses `Backwards`, `DefaultRange`, `NotHeld`, and `Conflict` unless every address of the range that is
+    /// still covered then has a most specific rule.
+    fn remove(&mut self, start: Self::Kind, finish: Self::Kind) -> Result<(), Refusal>
+        ensures answer { λ r. ⌜ r ≡ remove-answer (Kind·AddressKind .last) (Self·RangeStore .rules (now (self .entry))) (Kind·AddressKind .num start) (Kind·AddressKind .num finish) ⌝ }
+        ensures after { λ _. ⌜ Self·RangeStore .rules (now (self .exit)) ≡ remove-rules (Kind·AddressKind .last) (Self·RangeStore .rules (now (self .entry))) (Kind·AddressKind .num start) (Kind·AddressKind .num finish) ⌝ }
+        ensures room { λ _. ⌜ Self·RangeStore .capacity (now (self .exit)) ≡ Self·RangeStore .capacity (now (self .entry)) ⌝ }
+    {
+        if finish.lt(start) {
+            return Err(Refusal::Backwards);
+        }
+        if is_default(start, finish) {
+            return Err(Refusal::DefaultRange);
+        }
+        let Some(hop) = self.hop_of(start, finish) else {
+            return Err(Refusal::NotHeld);
+        };
+        let _ = self.take(start, finish);
+        if resolved_between(self, start, finish) {
+            return Ok(());
+        }
+        let _ = self.put(start, finish, hop);
+        Err(Refusal::Conflict)
     }
 
     /// The start, the finish and the hop of the most specific rule at `d`. Refuses `Uncovered`, then `Ambiguous`.
