@@ -8,3 +8,5 @@ mod lookups;
 mod refusals;
 #[cfg(test)]
 mod rows;
+#[cfg(test)]
+mod updates;

@@ -3,7 +3,6 @@
 use address::Port;
 use row_store::PortRow;
 use row_store::PortRowStore;
-use rules::RangeStore;
 use rules::Refusal;
 use table::AnyTable;
 use table::Table;
@@ -70,7 +69,7 @@ const SERVICES: [Service; 9] = [
 pub(crate) fn load(table: &mut PortRow<'_>) -> Result<(), Refusal> {
     table.make(DEFAULT_HOP)?;
     for service in &SERVICES {
-        table.put(
+        table.add(
             Port::new(service.first),
             Port::new(service.last),
             service.hop,
