@@ -11,7 +11,7 @@ use Rattle.std.specs.declared.option.Option.the-variants.{Some, None}
 use Rattle.std.specs.Orderings.{Decides}
 use Rattle.std.proofs.shelf.Ways.{tells, decides-and, decides-like}
 use Rattle.std.proofs.shelf.Tests.{cases-eq, cases-lt}
-use Rattle.rules.specs.Rules.{Rule, range, In, Covers, Inside, Same, Absent, Canonical, earlier, same, covers, insert, delete}
+use Rattle.rules.specs.Rules.{Rule, range, In, Covers, Inside, Same, Absent, Canonical, Bounded, earlier, same, covers, insert, delete}
 use Rattle.rules.specs.Search.{Best, best, closer, least-finish, greatest-start, Least, same?, agree}
 use Rattle.rules.specs.Conflicts.{Cross, Filled, Most-specific, Covered, Resolved-at, Resolved-in, Conflict-free, All-filled, Conflicting, most-specific, resolved-at, resolved-from, resolved-in}
 use Rattle.rules.proofs.Members.{covers-tells, same-tells, in-same, in-insert-old, in-insert-new, in-insert-keep, in-delete, in-delete-keep}
@@ -113,6 +113,9 @@ insert-decides R r free a = free-by-parts (insert r R) (r .start) (r .finish) (�
 
 pub delete-decides : (R : List Rule) (u v : ℕ) → Conflict-free R → Decides (resolved-in (delete u v R) u v) (Conflict-free (delete u v R))
 delete-decides R u v free = free-by-parts (delete u v R) u v (λ d n. resolved-delete-away R u v d n (free d))
+
+pub whole-decides : (last : ℕ) (R : List Rule) → Bounded last R → Decides (resolved-in R 0 last) (Conflict-free R)
+whole-decides last R b = free-by-parts R 0 last (λ d n c. absurd (n (omega (arith, b (c .0) (c .1 .0), c .1 .1))))
 
 -- where the test fails, the two rules that the searches find cross, and no rule fills what they share
 conflicting-at : (R : List Rule) (d : ℕ) (f s : Option Rule) → Best earlier (λ r. Covers r d) R f → Best closer (λ r. Covers r d) R s → same? f s ≡ false → Conflicting R

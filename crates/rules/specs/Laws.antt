@@ -6,7 +6,7 @@ use Prim.Native.Nat.{ℕ, _+_, _≤_, _<_}
 use Rattle.std.specs.declared.option.Option.{Option}
 use Rattle.std.specs.declared.option.Option.the-variants.{Some}
 use Rattle.std.specs.Orderings.{Decides}
-use Rattle.rules.specs.Rules.{Rule, In, Inside, Same, Absent, Covers, Canonical, earlier, ordered, insert, delete}
+use Rattle.rules.specs.Rules.{Rule, In, Inside, Same, Absent, Covers, Canonical, Bounded, earlier, ordered, insert, delete}
 use Rattle.rules.specs.Search.{Best, closer, least-finish, greatest-start}
 use Rattle.rules.specs.Conflicts.{Most-specific, Resolved-at, Resolved-in, Conflict-free, All-filled, Conflicting, most-specific, resolved-at, resolved-in}
 use Rattle.rules.specs.Boundaries.{Least-boundary, next-boundary, walk}
@@ -60,6 +60,10 @@ Removal-law = (R : List Rule) (u v : ℕ) → Conflict-free R → let S = delete
 -- another hop for a held range changes nothing of it
 abbrev pub Replacement-law : Type 0
 Replacement-law = (R : List Rule) (r s : Rule) → In s R → Same r s → Conflict-free R → Conflict-free (insert r R)
+
+-- the test from the first to the last address decides whether a set of ranges of that kind is conflict-free
+abbrev pub Whole-law : Type 0
+Whole-law = (last : ℕ) (R : List Rule) → Bounded last R → Decides (resolved-in R 0 last) (Conflict-free R) × (resolved-in R 0 last ≡ false → Conflicting R)
 
 -- the test at boundaries decides the test at every address
 abbrev pub Walk-law : Type 0

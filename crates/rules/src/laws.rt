@@ -1,6 +1,6 @@
 //! Laws of the definitions in specs/, each on the contract of a function so that the check asks for its proof.
 
-ghost use Rattle.rules.specs.Laws.{Inside-law, Equal-sets-law, Agree-law, Filled-law, Insertion-law, Removal-law, Replacement-law, Walk-law};
+ghost use Rattle.rules.specs.Laws.{Inside-law, Equal-sets-law, Agree-law, Filled-law, Insertion-law, Removal-law, Replacement-law, Whole-law, Walk-law};
 ghost use Rattle.rules.specs.Laws.{Ordered-law, Least-finish-law, Greatest-start-law, Most-specific-law, Resolved-law, Boundary-law};
 
 /// What the searches of a set find: the executable definitions mean what the relations say.
@@ -30,6 +30,7 @@ pub fn conflict_free_sets() -> u8
     ensures insertion { λ _. ⌜ Insertion-law ⌝ }
     ensures removal { λ _. ⌜ Removal-law ⌝ }
     ensures replacement { λ _. ⌜ Replacement-law ⌝ }
+    ensures whole { λ _. ⌜ Whole-law ⌝ }
     ensures boundaries { λ _. ⌜ Walk-law ⌝ }
 {
     0

@@ -1,3 +1,4 @@
 pub mod Lookups
 pub mod Makes
 pub mod Updates
+pub mod Commits

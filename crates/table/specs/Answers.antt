@@ -5,7 +5,7 @@ use mathlib.Core.Bool.{Bool, true, false, cond}
 use mathlib.Core.Logic.{_⊎_}
 use Prim.Native.Nat.{ℕ}
 use lib.Dec.{ltb}
-use lib.ListN.{length}
+use lib.ListN.{length, take}
 use Rattle.std.specs.declared.option.Option.{Option}
 use Rattle.std.specs.declared.option.Option.the-variants.{Some, None}
 use Rattle.std.specs.declared.result.Result.{Result}
@@ -14,6 +14,8 @@ use Rattle.std.specs.Options.{isSome}
 use Rattle.std.specs.Results.{isOk}
 use Rattle.rules.specs.declared.refusal.Refusal.{Refusal}
 use Rattle.rules.specs.declared.refusal.Refusal.the-variants.{Backwards, AlreadyMade, DefaultRange, NotHeld, Full, Conflict, Uncovered, Ambiguous}
+use Rattle.batch.specs.declared.change.Change.{Change}
+use Rattle.batch.specs.Applied.{then, apply-answer, all-rules}
 use Rattle.rules.specs.Rules.{Rule, rule, insert, delete, hop-of, is-default}
 use Rattle.rules.specs.Search.{least-finish}
 use Rattle.rules.specs.Conflicts.{most-specific, resolved-in, Most-specific, Covered}
@@ -71,3 +73,10 @@ remove-answer last R u v =
 
 abbrev pub remove-rules : ℕ → List Rule → ℕ → ℕ → List Rule
 remove-rules last R u v = cond (isOk (remove-answer last R u v)) (delete u v R) R
+
+-- the first n changes in order, each against the set that those before it leave; then every address has a most specific rule or is uncovered
+abbrev pub commit-answer : ℕ → ℕ → List Rule → ℕ → List (Change ℕ) → Result ℕ Refusal
+commit-answer last capacity R n cs = then (apply-answer last capacity R n cs) (cond (resolved-in (all-rules R (take n cs)) 0 last) (Ok n) (Err Conflict))
+
+abbrev pub commit-rules : ℕ → ℕ → List Rule → ℕ → List (Change ℕ) → List Rule
+commit-rules last capacity R n cs = cond (isOk (commit-answer last capacity R n cs)) (all-rules R (take n cs)) R

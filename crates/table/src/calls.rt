@@ -1,10 +1,20 @@
 //! The calls of a table. A table is any store under these calls, also one that was filled by direct puts.
 
 ghost use mathlib.Core.Path.{_≡_};
-ghost use Rattle.table.specs.Answers.{found, make-answer, make-rules, lookup-answer, Right, add-answer, add-rules, remove-answer, remove-rules};
+ghost use mathlib.Core.Bool.{true};
+ghost use lib.ListN.{drop};
+ghost use Rattle.std.specs.Results.{isOk};
+ghost use Rattle.rules.specs.Conflicts.{Resolved-in};
+ghost use Rattle.batch.specs.Changes.{changes, numbered-changes};
+ghost use Rattle.batch.specs.Staging.{count-of};
+ghost use Rattle.table.specs.Answers.{found, make-answer, make-rules, lookup-answer, Right, add-answer, add-rules, remove-answer, remove-rules, commit-answer, commit-rules};
 use crate::resolution::resolved_between;
 use crate::resolution::same_range;
 use address::AddressKind;
+use batch::Batch;
+use batch::Staged;
+use batch::apply;
+use batch::undo;
 use rules::RangeStore;
 use rules::Refusal;
 use rules::is_default;
@@ -60,6 +70,25 @@ pub trait Table: RangeStore {
             return Ok(());
         }
         let _ = self.put(start, finish, hop);
+        Err(Refusal::Conflict)
+    }
+
+    /// Ends the batch and makes the first changes of the list, as many as it counts, all or none; answers how many. Refuses `ShortList`, then
+    /// each change in its turn by `Backwards`, `DefaultRange`, `NotHeld` and `Full` against the set that those before it leave, then
+    /// `Conflict` unless every covered address then has a most specific rule; sets on the way need not be conflict-free.
+    fn commit(&mut self, batch: Batch, list: &mut [Staged<Self::Kind>]) -> Result<usize, Refusal>
+        ensures answer { λ r. ⌜ r ≡ commit-answer (Kind·AddressKind .last) (Self·RangeStore .capacity (now (self .entry))) (Self·RangeStore .rules (now (self .entry))) (count-of batch) (numbered-changes (Kind·AddressKind .num) (now (list .entry))) ⌝ }
+        ensures after { λ _. ⌜ Self·RangeStore .rules (now (self .exit)) ≡ commit-rules (Kind·AddressKind .last) (Self·RangeStore .capacity (now (self .entry))) (Self·RangeStore .rules (now (self .entry))) (count-of batch) (numbered-changes (Kind·AddressKind .num) (now (list .entry))) ⌝ }
+        ensures room { λ _. ⌜ Self·RangeStore .capacity (now (self .exit)) ≡ Self·RangeStore .capacity (now (self .entry)) ⌝ }
+        ensures kept { λ _. ⌜ changes (now (list .exit)) ≡ changes (now (list .entry)) ⌝ }
+        ensures rest { λ _. ⌜ drop (count-of batch) (now (list .exit)) ≡ drop (count-of batch) (now (list .entry)) ⌝ }
+        ensures resolved { λ r. ⌜ (isOk r ≡ true → Resolved-in (Self·RangeStore .rules (now (self .exit))) 0 (Kind·AddressKind .last)) ⌝ }
+    {
+        let n = apply(self, batch, list)?;
+        if resolved_between(self, Self::Kind::first(), Self::Kind::last()) {
+            return Ok(n);
+        }
+        undo(self, list, n);
         Err(Refusal::Conflict)
     }
 
