@@ -101,8 +101,8 @@ impl Batch {
     }
 
     /// Ends the batch; nothing of it is applied.
-    pub fn abandon(mut self) {
-        self.ended = true;
+    pub fn abandon(self) {
+        let _ = self.end();
     }
 
     /// Ends the batch and tells how many changes it has.

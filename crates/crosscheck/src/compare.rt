@@ -1,5 +1,6 @@
 //! One call on both tables, and whether answers, ranges and hops agree.
 
+use crate::batches;
 use crate::plain::Plain;
 use crate::plain::PlainRule;
 use crate::plain::SLOTS;
@@ -22,6 +23,12 @@ pub(crate) fn run(table: &mut PortRow<'_>, plain: &mut Plain, world: &World, tal
     let mut random = Random::new(world.seed);
     for _ in 0..world.calls {
         step(table, plain, world, &mut random, tally);
+        if !same_rules(table, plain) {
+            tally.differ();
+        }
+    }
+    for _ in 0..world.batches {
+        batches::step(table, plain, world, &mut random, tally);
         if !same_rules(table, plain) {
             tally.differ();
         }
@@ -64,7 +71,7 @@ fn step(
 }
 
 /// Mostly a held range, so that removes are tried for what they leave.
-fn held_or(plain: &Plain, random: &mut Random, ends: (u16, u16)) -> (u16, u16) {
+pub(crate) fn held_or(plain: &Plain, random: &mut Random, ends: (u16, u16)) -> (u16, u16) {
     if random.one_in(4) {
         return ends;
     }
@@ -112,7 +119,12 @@ fn delete(
     }
 }
 
-fn note(tally: &mut Tally, call: Call, answer: Result<(), Refusal>, plain: Result<(), Refusal>) {
+pub(crate) fn note(
+    tally: &mut Tally,
+    call: Call,
+    answer: Result<(), Refusal>,
+    plain: Result<(), Refusal>,
+) {
     if answer != plain {
         tally.differ();
     }

@@ -1,5 +1,6 @@
 //! Compares long lists of pseudo-random calls on a table with a plain table that tries every address.
 
+mod batches;
 mod compare;
 mod plain;
 mod random;

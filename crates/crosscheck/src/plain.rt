@@ -1,9 +1,12 @@
 //! A deliberately plain table of ports: rules in no order, and every address tried in turn.
 
+use address::Port;
+use batch::Change;
+use batch::Staged;
 use rules::Refusal;
 
 /// How many rules a plain table can hold at most.
-pub(crate) const SLOTS: usize = 32;
+pub(crate) const SLOTS: usize = 16;
 
 #[derive(Clone, Copy)]
 pub(crate) struct PlainRule {
@@ -28,14 +31,14 @@ impl PlainRule {
 
 #[derive(Clone, Copy)]
 pub(crate) struct Plain {
-    slots: [Option<PlainRule>; 32],
+    slots: [Option<PlainRule>; 16],
     capacity: usize,
 }
 
 impl Plain {
     pub(crate) fn new(capacity: usize) -> Plain {
         Plain {
-            slots: [None; 32],
+            slots: [None; 16],
             capacity: capacity.min(SLOTS),
         }
     }
@@ -180,6 +183,38 @@ impl Plain {
             return Err(Refusal::Conflict);
         }
         Ok(())
+    }
+
+    fn change(&mut self, change: &Change<Port>) -> Result<(), Refusal> {
+        match *change {
+            Change::Add { start, finish, hop } => self.put(start.value(), finish.value(), hop),
+            Change::Remove { start, finish } => {
+                if start.value() == 0 && finish.value() == u16::MAX {
+                    return Err(Refusal::DefaultRange);
+                }
+                self.take(start.value(), finish.value())
+            }
+        }
+    }
+
+    /// The first `n` changes in turn, then every address of all.
+    pub(crate) fn commit(&mut self, n: usize, list: &[Staged<Port>]) -> Result<usize, Refusal> {
+        if list.len() < n {
+            return Err(Refusal::ShortList);
+        }
+        let before = *self;
+        for i in 0..n {
+            let staged = &list[i];
+            if let Err(refusal) = self.change(&staged.change) {
+                *self = before;
+                return Err(refusal);
+            }
+        }
+        if !self.resolved(0, u16::MAX) {
+            *self = before;
+            return Err(Refusal::Conflict);
+        }
+        Ok(n)
     }
 
     pub(crate) fn lookup(&self, d: u16) -> Result<PlainRule, Refusal> {

@@ -12,11 +12,14 @@ pub(crate) enum Call {
     Lookup,
     Put,
     Take,
+    Stage,
+    Abandon,
+    Commit,
 }
 
 #[derive(Drop)]
 pub(crate) struct Tally {
-    calls: [u32; 6],
+    calls: [u32; 9],
     refusals: [u32; 17],
     differences: u32,
 }
@@ -28,14 +31,17 @@ fn label(call: usize) -> &'static str {
         2 => "remove",
         3 => "lookup",
         4 => "put",
-        _ => "take",
+        5 => "take",
+        6 => "stage",
+        7 => "abandon",
+        _ => "commit",
     }
 }
 
 impl Tally {
     pub(crate) fn new() -> Tally {
         Tally {
-            calls: [0; 6],
+            calls: [0; 9],
             refusals: [0; 17],
             differences: 0,
         }
@@ -44,7 +50,7 @@ impl Tally {
     /// One more call of this kind, with the refusal that both tables gave, if any.
     pub(crate) fn note(&mut self, call: Call, refusal: Option<Refusal>) {
         let i = call as usize;
-        if i < 6 {
+        if i < 9 {
             self.calls[i] = self.calls[i].saturating_add(1);
         }
         if let Some(refusal) = refusal {
@@ -61,7 +67,7 @@ impl Tally {
 
     pub(crate) fn print(&self, rt: &impl Print) -> io::Result<()> {
         let mut total: u32 = 0;
-        for i in 0..6 {
+        for i in 0..9 {
             let name = label(i);
             let n = self.calls[i];
             total = total.saturating_add(n);

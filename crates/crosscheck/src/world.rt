@@ -13,6 +13,8 @@ pub(crate) struct World {
     /// Whether updates are direct puts and takes, with no table made.
     pub(crate) direct: bool,
     pub(crate) calls: u32,
+    /// How many batches are staged after these calls.
+    pub(crate) batches: u32,
 }
 
 pub(crate) const WORLDS: [World; 7] = [
@@ -24,6 +26,7 @@ pub(crate) const WORLDS: [World; 7] = [
         capacity: 14,
         direct: false,
         calls: 30000,
+        batches: 700,
     },
     World {
         name: "at the last ports",
@@ -33,6 +36,7 @@ pub(crate) const WORLDS: [World; 7] = [
         capacity: 14,
         direct: false,
         calls: 12000,
+        batches: 300,
     },
     World {
         name: "at the first ports",
@@ -42,6 +46,7 @@ pub(crate) const WORLDS: [World; 7] = [
         capacity: 14,
         direct: false,
         calls: 12000,
+        batches: 300,
     },
     World {
         name: "two places",
@@ -51,6 +56,7 @@ pub(crate) const WORLDS: [World; 7] = [
         capacity: 2,
         direct: false,
         calls: 6000,
+        batches: 200,
     },
     World {
         name: "no place",
@@ -60,6 +66,7 @@ pub(crate) const WORLDS: [World; 7] = [
         capacity: 0,
         direct: false,
         calls: 200,
+        batches: 20,
     },
     World {
         name: "direct puts",
@@ -69,6 +76,7 @@ pub(crate) const WORLDS: [World; 7] = [
         capacity: 10,
         direct: true,
         calls: 12000,
+        batches: 200,
     },
     World {
         name: "wide ranges",
@@ -78,6 +86,7 @@ pub(crate) const WORLDS: [World; 7] = [
         capacity: 8,
         direct: false,
         calls: 6000,
+        batches: 100,
     },
 ];
 
