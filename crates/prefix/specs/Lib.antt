@@ -1,0 +1,4 @@
+pub mod Prefixes
+pub mod Numbers
+pub mod Blocks
+pub mod Laws
