@@ -12,8 +12,7 @@ use address::PortKind;
 use batch::Batch;
 use batch::Change;
 use batch::Staged;
-use row_store::PortRow;
-use row_store::PortRowStore;
+use rules::RangeStore;
 use rules::Refusal;
 use rules::RefusalEq;
 use rules::RefusalPartialEq;
@@ -103,8 +102,8 @@ fn sizes(random: &mut Random) -> (u64, usize) {
     }
 }
 
-pub(crate) fn step(
-    table: &mut PortRow<'_>,
+pub(crate) fn step<S: RangeStore<Kind = Port>>(
+    table: &mut S,
     plain: &mut Plain,
     world: &World,
     random: &mut Random,
@@ -114,8 +113,8 @@ pub(crate) fn step(
     play(table, plain, &mut list, world, random, tally);
 }
 
-fn play(
-    table: &mut PortRow<'_>,
+fn play<S: RangeStore<Kind = Port>>(
+    table: &mut S,
     plain: &mut Plain,
     list: &mut [Staged<Port>],
     world: &World,
@@ -160,8 +159,8 @@ fn stage(
 }
 
 /// Ends the batch: abandons it, or commits it with its own list, a part of it that is too short, or the places behind the first.
-fn finish(
-    table: &mut PortRow<'_>,
+fn finish<S: RangeStore<Kind = Port>>(
+    table: &mut S,
     plain: &mut Plain,
     batch: Batch,
     count: usize,
@@ -184,8 +183,8 @@ fn finish(
     }
 }
 
-fn commit(
-    table: &mut PortRow<'_>,
+fn commit<S: RangeStore<Kind = Port>>(
+    table: &mut S,
     plain: &mut Plain,
     batch: Batch,
     count: usize,

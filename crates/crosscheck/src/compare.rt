@@ -9,8 +9,7 @@ use crate::tally::Call;
 use crate::tally::Tally;
 use crate::world::World;
 use address::Port;
-use row_store::PortRow;
-use row_store::PortRowStore;
+use address::PortKind;
 use rules::RangeStore;
 use rules::Refusal;
 use rules::RefusalEq;
@@ -19,7 +18,12 @@ use table::AnyTable;
 use table::Table;
 
 /// Both tables, and what was counted of them.
-pub(crate) fn run(table: &mut PortRow<'_>, plain: &mut Plain, world: &World, tally: &mut Tally) {
+pub(crate) fn run<S: RangeStore<Kind = Port>>(
+    table: &mut S,
+    plain: &mut Plain,
+    world: &World,
+    tally: &mut Tally,
+) {
     let mut random = Random::new(world.seed);
     for _ in 0..world.calls {
         step(table, plain, world, &mut random, tally);
@@ -36,7 +40,7 @@ pub(crate) fn run(table: &mut PortRow<'_>, plain: &mut Plain, world: &World, tal
 }
 
 /// Whether both hold the same ranges with the same hops: as many, and each of the plain ones.
-fn same_rules(table: &PortRow<'_>, plain: &Plain) -> bool {
+fn same_rules<S: RangeStore<Kind = Port>>(table: &S, plain: &Plain) -> bool {
     for i in 0..SLOTS {
         if let Some(rule) = plain.slot(i) {
             if table.hop_of(Port::new(rule.start), Port::new(rule.finish)) != Some(rule.hop) {
@@ -47,8 +51,8 @@ fn same_rules(table: &PortRow<'_>, plain: &Plain) -> bool {
     table.count() == plain.count()
 }
 
-fn step(
-    table: &mut PortRow<'_>,
+fn step<S: RangeStore<Kind = Port>>(
+    table: &mut S,
     plain: &mut Plain,
     world: &World,
     random: &mut Random,
@@ -82,8 +86,8 @@ pub(crate) fn held_or(plain: &Plain, random: &mut Random, ends: (u16, u16)) -> (
     }
 }
 
-fn insert(
-    table: &mut PortRow<'_>,
+fn insert<S: RangeStore<Kind = Port>>(
+    table: &mut S,
     plain: &mut Plain,
     direct: bool,
     ends: (u16, u16),
@@ -101,8 +105,8 @@ fn insert(
     }
 }
 
-fn delete(
-    table: &mut PortRow<'_>,
+fn delete<S: RangeStore<Kind = Port>>(
+    table: &mut S,
     plain: &mut Plain,
     direct: bool,
     ends: (u16, u16),
@@ -131,7 +135,7 @@ pub(crate) fn note(
     tally.note(call, answer.err());
 }
 
-fn look(table: &PortRow<'_>, plain: &Plain, d: u16, tally: &mut Tally) {
+fn look<S: RangeStore<Kind = Port>>(table: &S, plain: &Plain, d: u16, tally: &mut Tally) {
     let answer = table.lookup(Port::new(d));
     let same = match answer {
         Ok(rule) => found(plain.lookup(d), rule.0.value(), rule.1.value(), rule.2),

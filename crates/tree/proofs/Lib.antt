@@ -1,0 +1,5 @@
+pub mod Shape
+pub mod Held
+pub mod Arms
+pub mod Heights
+pub mod Cuts

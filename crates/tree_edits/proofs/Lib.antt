@@ -1,0 +1,4 @@
+pub mod Grows
+pub mod Prunes
+pub mod Amends
+pub mod Leasts

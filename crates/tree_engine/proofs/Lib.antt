@@ -1,0 +1,4 @@
+pub mod Room
+pub mod Spares
+pub mod Seal
+pub mod Changes

@@ -1,0 +1,3 @@
+pub mod Firsts
+pub mod Finishes
+pub mod Finds
