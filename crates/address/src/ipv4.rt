@@ -1,4 +1,4 @@
-//! Ipv4s: addresses of 16 bits.
+//! IPv4 addresses: 32 bits.
 
 ghost use mathlib.Core.Path.{_≡_};
 ghost use Prim.Native.Nat.{_≤_};

@@ -16,7 +16,7 @@ use Rattle.rules.specs.Rules.{Rule}
 use Rattle.rules.specs.Conflicts.{Most-specific}
 use Rattle.table.specs.Answers.{lookup-answer, Right as Looked-right}
 use Rattle.table.proofs.Lookups.{lookup-right}
-use Rattle.forward.specs.Rows.{hop-then, hops-of, first-refused, row-answer, Written, Right-to, Right}
+use Rattle.forward.specs.Rows.{hop-then, hops-of, first-refused, row-answer, Written, Right-to}
 
 -- no more hops than destinations
 within : (R : List Rule) (ds : List ℕ) → first-refused R ds ≤ length ds

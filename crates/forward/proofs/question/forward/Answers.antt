@@ -1,6 +1,5 @@
 -- The test of the blocks decides which case the answer is.
-use mathlib.Core.Path.{_≡_, sym, _∙_}
-use mathlib.Core.Bool.{true, false}
+use mathlib.Core.Path.{sym, _∙_}
 use Rattle.std.proofs.shelf.Tests.{false≢true}
 use Rattle.address.specs.Numbers.{ipv4-num}
 use Rattle.prefix.specs.Blocks.{blocks}
@@ -15,7 +14,8 @@ returns-then-is-blocked g c =
 pub returns : need.returns
 returns g c =
     let b = c .if-is-blocked .ensures tt in
+    let looked = c .lookup .ensures in
     record {
-      answer = rw (← b, c .lookup .ensures .answer);
-      right = ((λ h. false≢true (b ∙ some-decides 32 blocks (ipv4-num (c .args .destination)) .1 h)), c .lookup .ensures .right);
+      answer = rw (← b, looked .answer);
+      right = ((λ h. false≢true (b ∙ some-decides 32 blocks (ipv4-num (c .args .destination)) .1 h)), looked .right);
     }
