@@ -1,0 +1,4 @@
+pub mod Parts
+pub mod Tails
+pub mod Encodings
+pub mod Runs
