@@ -16,7 +16,7 @@ pub trait Table: RangeStore {
     /// Enters the default range, from the first address to the last. Refuses `AlreadyMade`, then `Full`.
     fn make(&mut self, hop: u16) -> Result<(), Refusal>
         ensures answer { result ≡ make_answer (Self.RangeStore.capacity self.old) (Self.RangeStore.rules self.old) }
-        ensures after { Self.RangeStore.rules self.new ≡ make_rules Kind-as-AddressKind.last (Self.RangeStore.capacity self.old) (Self.RangeStore.rules self.old) hop }
+        ensures after { Self.RangeStore.rules self.new ≡ make_rules Self.Kind.AddressKind.last (Self.RangeStore.capacity self.old) (Self.RangeStore.rules self.old) hop }
         ensures room { Self.RangeStore.capacity self.new ≡ Self.RangeStore.capacity self.old }
     {
         if self.count() > 0 {

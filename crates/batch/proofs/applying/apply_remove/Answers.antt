@@ -7,11 +7,11 @@ use Rattle.batch.proofs.applying.apply_remove.Goals as goal
 pub returns : goal.returns
 returns g c =
     let s = c.args.store.now in
-    let k = g.Kind.AddressKind.num in
+    let k = g.S.Kind.AddressKind.num in
     let q = g.S.RangeStore in
     let u = k c.args.start in
     let v = k c.args.finish in
-    let a : Ok tt ≡ change_answer g.Kind.AddressKind.last (q.capacity s) (q.rules s) (Remove u v) = search rules in
+    let a : Ok tt ≡ change_answer g.S.Kind.AddressKind.last (q.capacity s) (q.rules s) (Remove u v) = search rules in
     let e = c.in-Some.ensures.answer in
     let d = c.take.ensures.after ∙ took (q.rules s) u v c.in-Some.hop (sym c.if-lt.ensures) (sym e) in
     record {

@@ -10,11 +10,11 @@ step i = rw add-one (pow-suc 256 i)
 small : (i : ℕ) → i < 8 → 256 ^ i * 256 ≤ 256 ^ 8
 small i h = rw (← step i) (let k : i + 1 ≤ 8 = omega arith in pow-le-pow_right (omega arith) k)
 
-pub overflow-mul-sum : goal.overflow-mul-sum
-overflow-mul-sum c = omega (arith, small c.loop-b.b-index (omega arith))
+pub overflow_mul-sum : goal.overflow_mul-sum
+overflow_mul-sum c = omega (arith, small c.loop-b.b-index (omega arith))
 
-pub overflow-add-sum : goal.overflow-add-sum
-overflow-add-sum c = omega (arith, small c.loop-b.b-index (omega arith))
+pub overflow_add-sum : goal.overflow_add-sum
+overflow_add-sum c = omega (arith, small c.loop-b.b-index (omega arith))
 
 pub loop-b-preserved : goal.loop-b-preserved
 loop-b-preserved c =

@@ -21,10 +21,10 @@ returns-in-Err g c =
     let w = g.A.FeedKind.width in
     let feed = c.args.feed.now in
     let size = length feed in
-    let reader = c.skip-rest.new.self in
+    let reader = c.skip_rest.new.self in
     let n : unread c.new-reader.result ≡ feed = ap₂ (λ k (f : Bor (List ℕ)). drop k f.now) c.new-reader.ensures.place c.new-reader.ensures.feed in
-    let s : length reader.feed.now ≡ size = ap (λ (f : Bor (List ℕ)). length f.now) (c.skip-rest.ensures.same ∙ c.new-reader.ensures.feed) in
-    let l : length (unread reader) ≡ length (run w feed).left = ap length (c.skip-rest.ensures.after ∙ ap (λ xs. (run w xs).left) n) in
+    let s : length reader.feed.now ≡ size = ap (λ (f : Bor (List ℕ)). length f.now) (c.skip_rest.ensures.same ∙ c.new-reader.ensures.feed) in
+    let l : length (unread reader) ≡ length (run w feed).left = ap length (c.skip_rest.ensures.after ∙ ap (λ xs. (run w xs).left) n) in
     let p : c.place.result ≡ size - length (run w feed).left = omega (arith, c.place.ensures, s, l, length-drop reader.place reader.feed.now, reader.within) in
     record {
       answer = ap (λ k. Some (k, c.in-Err.refusal)) p ∙ ap (fault_at (size - length (run w feed).left)) (c.in-Err.ensures.answer ∙ ap (λ xs. (run w xs).end) n);

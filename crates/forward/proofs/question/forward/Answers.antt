@@ -6,14 +6,14 @@ use Rattle.prefix.specs.Blocks.{blocks}
 use Rattle.prefix.proofs.Tables.{some_decides}
 use Rattle.forward.proofs.question.forward.Goals as goal
 
-pub returns-then-is-blocked : goal.returns-then-is-blocked
-returns-then-is-blocked g c =
-    let b = c.if-is-blocked.ensures in
+pub returns-then-is_blocked : goal.returns-then-is_blocked
+returns-then-is_blocked g c =
+    let b = c.if-is_blocked.ensures in
     record { answer = rw (← b); right = (some_decides 32 blocks (ipv4_num c.args.destination)).0 (sym b) }
 
 pub returns : goal.returns
 returns g c =
-    let b = c.if-is-blocked.ensures in
+    let b = c.if-is_blocked.ensures in
     let looked = c.lookup.ensures in
     record {
       answer = rw (← b, looked.answer);

@@ -7,11 +7,11 @@ use Rattle.forward.specs.Rows.{hops_of}
 use Rattle.forward.proofs.Steps.{Done, more, stop, done}
 use Rattle.forward.proofs.rows.lookup_row.Goals as goal
 
-pub returns-in-default : goal.returns-in-default
-returns-in-default g c =
+pub returns-in_default : goal.returns-in_default
+returns-in_default g c =
     let R = g.S.RangeStore.rules c.args.table.now in
     let ds = c.args.destinations.now in
-    let z = stop R ds c.args.hops.now c.loop-i.hops c.loop-i.i (ipv4_num c.new.result) c.in-default.field-0 (omega arith) c.new.ensures c.in-default.ensures.answer in
+    let z = stop R ds c.args.hops.now c.loop-i.hops c.loop-i.i (ipv4_num c.new.result) c.in_default.field-0 (omega arith) c.new.ensures c.in_default.ensures.answer in
     let w = done R ds c.args.hops.now c.loop-i.hops c.loop-i.i (omega arith) (omega arith) z c.loop-i.invariant in
     record { answer = w.answer; written = w.written; right = w.right }
 

@@ -4,13 +4,13 @@ use Rattle.lines.proofs.Writes.{more_part}
 use Rattle.lines.proofs.Fits.{length_word}
 use Rattle.lines.proofs.line.put_fault.Goals as goal
 
-pub put-number-requires : goal.put-number-requires
-put-number-requires c = omega (arith, length_word c.args.place (omega arith))
+pub put_number-requires : goal.put_number-requires
+put_number-requires c = omega (arith, length_word c.args.place (omega arith))
 
 pub returns : goal.returns
 returns c =
     let h = length_word c.args.place (omega arith) in
     record {
-      wrote = more_part (refused c.args.refusal) _ c.put-refusal-next.ensures.wrote (omega arith) c.put-number.ensures.wrote;
+      wrote = more_part (refused c.args.refusal) _ c.put_refusal-next.ensures.wrote (omega arith) c.put_number.ensures.wrote;
       short = omega arith;
     }

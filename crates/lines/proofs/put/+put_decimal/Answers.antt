@@ -7,19 +7,19 @@ use Rattle.lines.proofs.put.+put_decimal.Goals as goal
 longer : (n : ℕ) → 10 ≤ n → n < 2 ^ 64 → length (decimal n) ≡ length (decimal (n / 10)) + 1
 longer n h l = ap length (decimal_step n h (omega arith)) ∙ length-append (decimal (n / 10)) ((48 + n % 10) ∷ [])
 
-pub put-byte-requires : goal.put-byte-requires
-put-byte-requires t c = omega (arith, ap length (decimal_digit c.args.n (omega arith)))
+pub put_byte-requires : goal.put_byte-requires
+put_byte-requires t c = omega (arith, ap length (decimal_digit c.args.n (omega arith)))
 
 pub returns-then-n-lt10 : goal.returns-then-n-lt10
-returns-then-n-lt10 t c = let e = decimal_digit c.args.n (omega arith) in rw e c.put-byte.ensures
+returns-then-n-lt10 t c = let e = decimal_digit c.args.n (omega arith) in rw e c.put_byte.ensures
 
-pub put-decimal-next-requires : goal.put-decimal-next-requires
-put-decimal-next-requires t c = omega (arith, longer c.args.n (omega arith) (omega arith))
+pub put_decimal-next-requires : goal.put_decimal-next-requires
+put_decimal-next-requires t c = omega (arith, longer c.args.n (omega arith) (omega arith))
 
-pub put-byte-requires-2 : goal.put-byte-requires-2
-put-byte-requires-2 t c = omega (arith, longer c.args.n (omega arith) (omega arith))
+pub put_byte-requires-2 : goal.put_byte-requires-2
+put_byte-requires-2 t c = omega (arith, longer c.args.n (omega arith) (omega arith))
 
 pub returns : goal.returns
 returns t c =
     let e = decimal_step c.args.n (omega arith) (omega arith) in
-    rw e (record { wrote = grow c.put-decimal-next.ensures.wrote (omega (arith, longer c.args.n (omega arith) (omega arith))) c.put-byte-2.ensures.wrote })
+    rw e (record { wrote = grow c.put_decimal-next.ensures.wrote (omega (arith, longer c.args.n (omega arith) (omega arith))) c.put_byte-2.ensures.wrote })

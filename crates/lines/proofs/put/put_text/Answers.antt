@@ -12,4 +12,4 @@ copied xs ys text at e =
     ∙ ap (λ bs. take at xs ++ (bs ++ drop (at + length text) xs)) e
 
 pub returns : goal.returns
-returns c = record { wrote = record { after = copied c.args.out.now _ c.args.text.now c.args.at c.copy-from-slice.ensures.after; place = refl } }
+returns c = record { wrote = record { after = copied c.args.out.now _ c.args.text.now c.args.at c.copy_from_slice.ensures.after; place = refl } }

@@ -3,8 +3,8 @@ use Rattle.std.proofs.Common.{◌-◌, arith}
 use Rattle.std.proofs.lemmas.Nat.{one_shl, pow_pos}
 use Rattle.prefix.proofs.widths.behind.Goals as goal
 
-pub overflow-sub-result : goal.overflow-sub-result
-overflow-sub-result c = omega (arith, one_shl (c.args.width - c.args.length) 128 (omega arith), pow_pos (c.args.width - c.args.length))
+pub overflow_sub-result : goal.overflow_sub-result
+overflow_sub-result c = omega (arith, one_shl (c.args.width - c.args.length) 128 (omega arith), pow_pos (c.args.width - c.args.length))
 
 pub returns-else-count : goal.returns-else-count
 returns-else-count c = omega (arith, one_shl (c.args.width - c.args.length) 128 (omega arith))

@@ -14,8 +14,8 @@ pub behind-requires : goal.behind-requires
 behind-requires c =
     record { fits = (ends c.args.width c.args.value c.args.length c.requires.small c.requires.ok).0; wide = c.requires.wide }
 
-pub overflow-add-result : goal.overflow-add-result
-overflow-add-result c =
+pub overflow_add-result : goal.overflow_add-result
+overflow_add-result c =
     let m : 2 ^ c.args.width ≤ 2 ^ 128 = pow_mono c.requires.wide in
     omega (arith, ends c.args.width c.args.value c.args.length c.requires.small c.requires.ok)
 

@@ -10,4 +10,4 @@ loop-i-init g c = let k = g.A.AddressKind in boundary_none (numbered k.num) c.ar
 pub loop-i-preserved : goal.loop-i-preserved
 loop-i-preserved g c =
     let k = g.A.AddressKind in
-    boundary_on (numbered k.num) c.args.held.now c.loop-i.i k.last (k.num c.args.d) (option_map k.num c.loop-i.o) (option_map k.num c.nearer-end.result) (option_map k.num c.nearer-o.result) c.index-held-i.result (omega arith) (omega arith) c.index-held-i.is c.loop-i.invariant c.nearer-end.ensures c.nearer-o.ensures
+    boundary_on (numbered k.num) c.args.held.now c.loop-i.i k.last (k.num c.args.d) (option_map k.num c.loop-i.o) (option_map k.num c.nearer_end.result) (option_map k.num c.nearer-o.result) c.index-held-i.result (omega arith) (omega arith) c.index-held-i.is c.loop-i.invariant c.nearer_end.ensures c.nearer-o.ensures

@@ -11,14 +11,14 @@ at-n-requires g c =
     let p = c.requires.parts in
     record { some = tall_link g.A.AddressKind.num c.args.nodes.now c.args.right p.1 p.2.upper p.5; held = (p.1, p.2.upper) }
 
-pub height-at-ha-requires : goal.height-at-ha-requires
-height-at-ha-requires g c =
+pub height_at-ha-requires : goal.height_at-ha-requires
+height_at-ha-requires g c =
     let p = c.requires.parts in
     let O = opened g.A.AddressKind.num c.args.nodes.now c.args.right c.at-n.result p.1 p.2.upper (c.at-n.ensures p.1 p.2.upper) in
     (O.lower, O.below)
 
-pub height-at-hb-requires : goal.height-at-hb-requires
-height-at-hb-requires g c =
+pub height_at-hb-requires : goal.height_at-hb-requires
+height_at-hb-requires g c =
     let p = c.requires.parts in
     let O = opened g.A.AddressKind.num c.args.nodes.now c.args.right c.at-n.result p.1 p.2.upper (c.at-n.ensures p.1 p.2.upper) in
     (O.upper, O.above)
@@ -29,12 +29,12 @@ at-m-requires g c =
     let ns = c.args.nodes.now in
     let p = c.requires.parts in
     let O = opened num ns c.args.right c.at-n.result p.1 p.2.upper (c.at-n.ensures p.1 p.2.upper) in
-    let ha : c.height-at-ha.result ≡ height O.lower = c.height-at-ha.ensures O.lower O.below in
-    let hb : c.height-at-hb.result ≡ height O.upper = c.height-at-hb.ensures O.upper O.above in
+    let ha : c.height_at-ha.result ≡ height O.lower = c.height_at-ha.ensures O.lower O.below in
+    let hb : c.height_at-hb.result ≡ height O.upper = c.height_at-hb.ensures O.upper O.above in
     record { some = tall_link num ns c.at-n.result.left O.lower O.below (omega (arith, c.if-hb-ha.true)); held = (O.lower, O.below) }
 
-pub join-arms-requires : goal.join-arms-requires
-join-arms-requires g c =
+pub join_arms-requires : goal.join_arms-requires
+join_arms-requires g c =
     let num = g.A.AddressKind.num in
     let a = c.args in
     let ns = a.nodes.now in
@@ -74,15 +74,15 @@ returns-then-hb-ha g c =
     record {
       made = λ l r P.
           let O = opened num ns a.right c.at-n.result r P.upper (c.at-n.ensures r P.upper) in
-          let ha : c.height-at-ha.result ≡ height O.lower = c.height-at-ha.ensures O.lower O.below in
-          let hb : c.height-at-hb.result ≡ height O.upper = c.height-at-hb.ensures O.upper O.above in
+          let ha : c.height_at-ha.result ≡ height O.lower = c.height_at-ha.ensures O.lower O.below in
+          let hb : c.height_at-hb.result ≡ height O.upper = c.height_at-hb.ensures O.upper O.above in
           let Q = opened num ns c.at-n.result.left c.at-m.result O.lower O.below (c.at-m.ensures O.lower O.below) in
-          subst (λ t. Held num c.join-arms.new.nodes c.at-n.result.left t) (sym (left-twice-is num ns a.i a.left a.right a.rule l r c.at-n.result P O c.at-m.result Q (omega (arith, c.if-hb-ha.true))))
-          (c.join-arms.ensures.made l Q.lower Q.upper O.upper (left-arms num ns a.i a.left a.right a.rule l r c.at-n.result P O c.at-m.result Q));
+          subst (λ t. Held num c.join_arms.new.nodes c.at-n.result.left t) (sym (left-twice-is num ns a.i a.left a.right a.rule l r c.at-n.result P O c.at-m.result Q (omega (arith, c.if-hb-ha.true))))
+          (c.join_arms.ensures.made l Q.lower Q.upper O.upper (left-arms num ns a.i a.left a.right a.rule l r c.at-n.result P O c.at-m.result Q));
       beyond = λ l r P.
           let O = opened num ns a.right c.at-n.result r P.upper (c.at-n.ensures r P.upper) in
           let Q = opened num ns c.at-n.result.left c.at-m.result O.lower O.below (c.at-m.ensures O.lower O.below) in
-          left-twice-beyond num ns a.i a.left a.right a.rule l r c.at-n.result P O c.at-m.result Q c.join-arms.new.nodes c.join-arms.ensures.apart;
+          left-twice-beyond num ns a.i a.left a.right a.rule l r c.at-n.result P O c.at-m.result Q c.join_arms.new.nodes c.join_arms.ensures.apart;
     }
 
 pub returns-else-hb-ha : goal.returns-else-hb-ha
@@ -93,8 +93,8 @@ returns-else-hb-ha g c =
     record {
       made = λ l r P.
           let O = opened num ns a.right c.at-n.result r P.upper (c.at-n.ensures r P.upper) in
-          let ha : c.height-at-ha.result ≡ height O.lower = c.height-at-ha.ensures O.lower O.below in
-          let hb : c.height-at-hb.result ≡ height O.upper = c.height-at-hb.ensures O.upper O.above in
+          let ha : c.height_at-ha.result ≡ height O.lower = c.height_at-ha.ensures O.lower O.below in
+          let hb : c.height_at-hb.result ≡ height O.upper = c.height_at-hb.ensures O.upper O.above in
           let J = c.join.ensures.made l O.lower (left-parts num ns a.i a.left a.right a.rule l r c.at-n.result P O) in
           subst (λ t. Held num c.join-else-hb-ha.new.nodes a.right t) (sym (left_is num ns a.i a.left a.right a.rule l r c.at-n.result P O (omega (arith, c.if-hb-ha.false))))
           (c.join-else-hb-ha.ensures.made (node l a.i a.rule O.lower) O.upper (left_over num ns a.i a.left a.right a.rule l r c.at-n.result P O c.join.new.nodes c.join.auto.nodes c.join.ensures.only J));

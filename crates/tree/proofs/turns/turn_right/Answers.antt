@@ -11,14 +11,14 @@ at-n-requires g c =
     let p = c.requires.parts in
     record { some = tall_link g.A.AddressKind.num c.args.nodes.now c.args.left p.0 p.2.lower p.5; held = (p.0, p.2.lower) }
 
-pub height-at-ha-requires : goal.height-at-ha-requires
-height-at-ha-requires g c =
+pub height_at-ha-requires : goal.height_at-ha-requires
+height_at-ha-requires g c =
     let p = c.requires.parts in
     let O = opened g.A.AddressKind.num c.args.nodes.now c.args.left c.at-n.result p.0 p.2.lower (c.at-n.ensures p.0 p.2.lower) in
     (O.lower, O.below)
 
-pub height-at-hb-requires : goal.height-at-hb-requires
-height-at-hb-requires g c =
+pub height_at-hb-requires : goal.height_at-hb-requires
+height_at-hb-requires g c =
     let p = c.requires.parts in
     let O = opened g.A.AddressKind.num c.args.nodes.now c.args.left c.at-n.result p.0 p.2.lower (c.at-n.ensures p.0 p.2.lower) in
     (O.upper, O.above)
@@ -29,12 +29,12 @@ at-m-requires g c =
     let ns = c.args.nodes.now in
     let p = c.requires.parts in
     let O = opened num ns c.args.left c.at-n.result p.0 p.2.lower (c.at-n.ensures p.0 p.2.lower) in
-    let ha : c.height-at-ha.result ≡ height O.lower = c.height-at-ha.ensures O.lower O.below in
-    let hb : c.height-at-hb.result ≡ height O.upper = c.height-at-hb.ensures O.upper O.above in
+    let ha : c.height_at-ha.result ≡ height O.lower = c.height_at-ha.ensures O.lower O.below in
+    let hb : c.height_at-hb.result ≡ height O.upper = c.height_at-hb.ensures O.upper O.above in
     record { some = tall_link num ns c.at-n.result.right O.upper O.above (omega (arith, c.if-ha-hb.true)); held = (O.upper, O.above) }
 
-pub join-arms-requires : goal.join-arms-requires
-join-arms-requires g c =
+pub join_arms-requires : goal.join_arms-requires
+join_arms-requires g c =
     let num = g.A.AddressKind.num in
     let a = c.args in
     let ns = a.nodes.now in
@@ -74,15 +74,15 @@ returns-then-ha-hb g c =
     record {
       made = λ l r P.
           let O = opened num ns a.left c.at-n.result l P.lower (c.at-n.ensures l P.lower) in
-          let ha : c.height-at-ha.result ≡ height O.lower = c.height-at-ha.ensures O.lower O.below in
-          let hb : c.height-at-hb.result ≡ height O.upper = c.height-at-hb.ensures O.upper O.above in
+          let ha : c.height_at-ha.result ≡ height O.lower = c.height_at-ha.ensures O.lower O.below in
+          let hb : c.height_at-hb.result ≡ height O.upper = c.height_at-hb.ensures O.upper O.above in
           let Q = opened num ns c.at-n.result.right c.at-m.result O.upper O.above (c.at-m.ensures O.upper O.above) in
-          subst (λ t. Held num c.join-arms.new.nodes c.at-n.result.right t) (sym (right-twice-is num ns a.i a.left a.right a.rule l r c.at-n.result P O c.at-m.result Q (omega (arith, c.if-ha-hb.true))))
-          (c.join-arms.ensures.made O.lower Q.lower Q.upper r (right-arms num ns a.i a.left a.right a.rule l r c.at-n.result P O c.at-m.result Q));
+          subst (λ t. Held num c.join_arms.new.nodes c.at-n.result.right t) (sym (right-twice-is num ns a.i a.left a.right a.rule l r c.at-n.result P O c.at-m.result Q (omega (arith, c.if-ha-hb.true))))
+          (c.join_arms.ensures.made O.lower Q.lower Q.upper r (right-arms num ns a.i a.left a.right a.rule l r c.at-n.result P O c.at-m.result Q));
       beyond = λ l r P.
           let O = opened num ns a.left c.at-n.result l P.lower (c.at-n.ensures l P.lower) in
           let Q = opened num ns c.at-n.result.right c.at-m.result O.upper O.above (c.at-m.ensures O.upper O.above) in
-          right-twice-beyond num ns a.i a.left a.right a.rule l r c.at-n.result P O c.at-m.result Q c.join-arms.new.nodes c.join-arms.ensures.apart;
+          right-twice-beyond num ns a.i a.left a.right a.rule l r c.at-n.result P O c.at-m.result Q c.join_arms.new.nodes c.join_arms.ensures.apart;
     }
 
 pub returns-else-ha-hb : goal.returns-else-ha-hb
@@ -93,8 +93,8 @@ returns-else-ha-hb g c =
     record {
       made = λ l r P.
           let O = opened num ns a.left c.at-n.result l P.lower (c.at-n.ensures l P.lower) in
-          let ha : c.height-at-ha.result ≡ height O.lower = c.height-at-ha.ensures O.lower O.below in
-          let hb : c.height-at-hb.result ≡ height O.upper = c.height-at-hb.ensures O.upper O.above in
+          let ha : c.height_at-ha.result ≡ height O.lower = c.height_at-ha.ensures O.lower O.below in
+          let hb : c.height_at-hb.result ≡ height O.upper = c.height_at-hb.ensures O.upper O.above in
           let J = c.join.ensures.made O.upper r (right_parts num ns a.i a.left a.right a.rule l r c.at-n.result P O) in
           subst (λ t. Held num c.join-else-ha-hb.new.nodes a.left t) (sym (right_is num ns a.i a.left a.right a.rule l r c.at-n.result P O (omega (arith, c.if-ha-hb.false))))
           (c.join-else-ha-hb.ensures.made O.lower (node O.upper a.i a.rule r) (right_over num ns a.i a.left a.right a.rule l r c.at-n.result P O c.join.new.nodes c.join.auto.nodes c.join.ensures.only J));

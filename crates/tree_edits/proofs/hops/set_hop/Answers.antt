@@ -11,6 +11,6 @@ returns g c =
     let a = c.args in
     let ns = a.nodes.now in
     record {
-      made = λ root t H. subst (λ ms. Held num ms root (amend a.k a.hop t)) (sym c.write.ensures) (amend-held a.k a.hop num ns c.node-at-n.result c.requires.0 c.requires.1 c.node-at-n.ensures root t H);
+      made = λ root t H. subst (λ ms. Held num ms root (amend a.k a.hop t)) (sym c.write.ensures) (amend-held a.k a.hop num ns c.node_at-n.result c.requires.0 c.requires.1 c.node_at-n.ensures root t H);
       only = subst (λ ms. Only a.k ns ms) (sym c.write.ensures) (set_only num ns a.k _ c.requires.0);
     }

@@ -62,8 +62,8 @@ balance-requires g t c =
     let P = grow-left-parts num lt ns a.root a.i a.rule p.0 c.at-n.result p.1 O p.4 c.insert-left.new.nodes c.insert-left.result c.insert-left.auto.nodes (c.insert-left.ensures.made O.lower O.below off) (c.insert-left.ensures.beyond O.lower O.below off) in
     record { parts = (grow lt O.lower a.i a.rule, O.upper, P, omega (arith, (grow_keeps lt O.lower a.i a.rule B.2).2), omega arith) }
 
-pub balance-requires-else-is-before : goal.balance-requires-else-is-before
-balance-requires-else-is-before g t c =
+pub balance-requires-else-is_before : goal.balance-requires-else-is_before
+balance-requires-else-is_before g t c =
     let num = g.A.AddressKind.num in
     let lt = before num in
     let a = c.args in
@@ -76,8 +76,8 @@ balance-requires-else-is-before g t c =
     let P = grow-right-parts num lt ns a.root a.i a.rule p.0 c.at-n.result p.1 O p.4 c.insert_right.new.nodes c.insert_right.result c.insert_right.auto.nodes (c.insert_right.ensures.made O.upper O.above off) (c.insert_right.ensures.beyond O.upper O.above off) in
     record { parts = (O.lower, grow lt O.upper a.i a.rule, P, omega arith, omega (arith, (grow_keeps lt O.upper a.i a.rule B.3).2)) }
 
-pub returns-then-is-before : goal.returns-then-is-before
-returns-then-is-before g t c =
+pub returns-then-is_before : goal.returns-then-is_before
+returns-then-is_before g t c =
     let num = g.A.AddressKind.num in
     let lt = before num in
     let a = c.args in
@@ -87,7 +87,7 @@ returns-then-is-before g t c =
           let O = opened num ns a.root c.at-n.result u H (c.at-n.ensures u H) in
           let off' : uses a.i O.lower ≡ 0 = omega (arith, ap (λ v. uses a.i v) O.is) in
           let P = grow-left-parts num lt ns a.root a.i a.rule u c.at-n.result H O off c.insert-left.new.nodes c.insert-left.result c.insert-left.auto.nodes (c.insert-left.ensures.made O.lower O.below off') (c.insert-left.ensures.beyond O.lower O.below off') in
-          subst (λ v. Held num c.balance.new.nodes c.balance.result v) (sym (grow-left_is num lt ns a.root a.i a.rule u c.at-n.result H O off (sym c.if-is-before.ensures))) (c.balance.ensures.made (grow lt O.lower a.i a.rule) O.upper P);
+          subst (λ v. Held num c.balance.new.nodes c.balance.result v) (sym (grow-left_is num lt ns a.root a.i a.rule u c.at-n.result H O off (sym c.if-is_before.ensures))) (c.balance.ensures.made (grow lt O.lower a.i a.rule) O.upper P);
       beyond = λ u H off.
           let O = opened num ns a.root c.at-n.result u H (c.at-n.ensures u H) in
           let off' : uses a.i O.lower ≡ 0 = omega (arith, ap (λ v. uses a.i v) O.is) in
@@ -95,8 +95,8 @@ returns-then-is-before g t c =
           grow-left_beyond num lt ns a.root a.i a.rule u c.at-n.result H O off c.insert-left.new.nodes c.balance.new.nodes (c.insert-left.ensures.beyond O.lower O.below off') (c.balance.ensures.beyond (grow lt O.lower a.i a.rule) O.upper P);
     }
 
-pub returns-else-is-before : goal.returns-else-is-before
-returns-else-is-before g t c =
+pub returns-else-is_before : goal.returns-else-is_before
+returns-else-is_before g t c =
     let num = g.A.AddressKind.num in
     let lt = before num in
     let a = c.args in
@@ -106,10 +106,10 @@ returns-else-is-before g t c =
           let O = opened num ns a.root c.at-n.result u H (c.at-n.ensures u H) in
           let off' : uses a.i O.upper ≡ 0 = omega (arith, ap (λ v. uses a.i v) O.is) in
           let P = grow-right-parts num lt ns a.root a.i a.rule u c.at-n.result H O off c.insert_right.new.nodes c.insert_right.result c.insert_right.auto.nodes (c.insert_right.ensures.made O.upper O.above off') (c.insert_right.ensures.beyond O.upper O.above off') in
-          subst (λ v. Held num c.balance-else-is-before.new.nodes c.balance-else-is-before.result v) (sym (grow_right_is num lt ns a.root a.i a.rule u c.at-n.result H O off (sym c.if-is-before.ensures))) (c.balance-else-is-before.ensures.made O.lower (grow lt O.upper a.i a.rule) P);
+          subst (λ v. Held num c.balance-else-is_before.new.nodes c.balance-else-is_before.result v) (sym (grow_right_is num lt ns a.root a.i a.rule u c.at-n.result H O off (sym c.if-is_before.ensures))) (c.balance-else-is_before.ensures.made O.lower (grow lt O.upper a.i a.rule) P);
       beyond = λ u H off.
           let O = opened num ns a.root c.at-n.result u H (c.at-n.ensures u H) in
           let off' : uses a.i O.upper ≡ 0 = omega (arith, ap (λ v. uses a.i v) O.is) in
           let P = grow-right-parts num lt ns a.root a.i a.rule u c.at-n.result H O off c.insert_right.new.nodes c.insert_right.result c.insert_right.auto.nodes (c.insert_right.ensures.made O.upper O.above off') (c.insert_right.ensures.beyond O.upper O.above off') in
-          grow_right_beyond num lt ns a.root a.i a.rule u c.at-n.result H O off c.insert_right.new.nodes c.balance-else-is-before.new.nodes (c.insert_right.ensures.beyond O.upper O.above off') (c.balance-else-is-before.ensures.beyond O.lower (grow lt O.upper a.i a.rule) P);
+          grow_right_beyond num lt ns a.root a.i a.rule u c.at-n.result H O off c.insert_right.new.nodes c.balance-else-is_before.new.nodes (c.insert_right.ensures.beyond O.upper O.above off') (c.balance-else-is_before.ensures.beyond O.lower (grow lt O.upper a.i a.rule) P);
     }

@@ -68,8 +68,8 @@ balance-requires g t c =
     let P = prune-left-parts num lt x ns k p.0 c.at-n.result p.1 O c.remove-left.new.nodes c.remove-left.result c.remove-left.auto.nodes (c.remove-left.ensures.made O.lower O.below) (c.remove-left.ensures.beyond O.lower O.below) in
     record { parts = (prune lt x O.lower, O.upper, P, omega (arith, p.3, (prune_keeps lt x O.lower B.2).1), omega (arith, p.3)) }
 
-pub balance-requires-then-is-before-2 : goal.balance-requires-then-is-before-2
-balance-requires-then-is-before-2 g t c =
+pub balance-requires-then-is_before-2 : goal.balance-requires-then-is_before-2
+balance-requires-then-is_before-2 g t c =
     let num = g.A.AddressKind.num in
     let lt = before num in
     let a = c.args in
@@ -97,8 +97,8 @@ merge-requires g t c =
     let h : height p.0 ≡ max (height O.lower) (height O.upper) + 1 = ap height O.is in
     (O.lower, O.upper, beside num lt x ns k p.0 c.at-n.result p.1 O, B.3, omega (arith, p.3), omega (arith, p.3))
 
-pub returns-then-is-before : goal.returns-then-is-before
-returns-then-is-before g t c =
+pub returns-then-is_before : goal.returns-then-is_before
+returns-then-is_before g t c =
     let num = g.A.AddressKind.num in
     let lt = before num in
     let a = c.args in
@@ -109,15 +109,15 @@ returns-then-is-before g t c =
       made = λ u H.
           let O = opened num ns k c.at-n.result u H (c.at-n.ensures u H) in
           let P = prune-left-parts num lt x ns k u c.at-n.result H O c.remove-left.new.nodes c.remove-left.result c.remove-left.auto.nodes (c.remove-left.ensures.made O.lower O.below) (c.remove-left.ensures.beyond O.lower O.below) in
-          subst (λ v. Held num c.balance.new.nodes c.balance.result v) (sym (prune-left-is num lt x ns k u c.at-n.result H O (sym c.if-is-before.ensures))) (c.balance.ensures.made (prune lt x O.lower) O.upper P);
+          subst (λ v. Held num c.balance.new.nodes c.balance.result v) (sym (prune-left-is num lt x ns k u c.at-n.result H O (sym c.if-is_before.ensures))) (c.balance.ensures.made (prune lt x O.lower) O.upper P);
       beyond = λ u H.
           let O = opened num ns k c.at-n.result u H (c.at-n.ensures u H) in
           let P = prune-left-parts num lt x ns k u c.at-n.result H O c.remove-left.new.nodes c.remove-left.result c.remove-left.auto.nodes (c.remove-left.ensures.made O.lower O.below) (c.remove-left.ensures.beyond O.lower O.below) in
           prune-left-beyond num lt x ns k u c.at-n.result H O c.remove-left.new.nodes c.balance.new.nodes (c.remove-left.ensures.beyond O.lower O.below) (c.balance.ensures.beyond (prune lt x O.lower) O.upper P);
     }
 
-pub returns-then-is-before-2 : goal.returns-then-is-before-2
-returns-then-is-before-2 g t c =
+pub returns-then-is_before-2 : goal.returns-then-is_before-2
+returns-then-is_before-2 g t c =
     let num = g.A.AddressKind.num in
     let lt = before num in
     let a = c.args in
@@ -128,15 +128,15 @@ returns-then-is-before-2 g t c =
       made = λ u H.
           let O = opened num ns k c.at-n.result u H (c.at-n.ensures u H) in
           let P = prune-right-parts num lt x ns k u c.at-n.result H O c.remove-right.new.nodes c.remove-right.result c.remove-right.auto.nodes (c.remove-right.ensures.made O.upper O.above) (c.remove-right.ensures.beyond O.upper O.above) in
-          subst (λ v. Held num c.balance-then-is-before-2.new.nodes c.balance-then-is-before-2.result v) (sym (prune-right-is num lt x ns k u c.at-n.result H O (sym c.if-is-before.ensures) (sym c.if-is-before-2.ensures))) (c.balance-then-is-before-2.ensures.made O.lower (prune lt x O.upper) P);
+          subst (λ v. Held num c.balance-then-is_before-2.new.nodes c.balance-then-is_before-2.result v) (sym (prune-right-is num lt x ns k u c.at-n.result H O (sym c.if-is_before.ensures) (sym c.if-is_before-2.ensures))) (c.balance-then-is_before-2.ensures.made O.lower (prune lt x O.upper) P);
       beyond = λ u H.
           let O = opened num ns k c.at-n.result u H (c.at-n.ensures u H) in
           let P = prune-right-parts num lt x ns k u c.at-n.result H O c.remove-right.new.nodes c.remove-right.result c.remove-right.auto.nodes (c.remove-right.ensures.made O.upper O.above) (c.remove-right.ensures.beyond O.upper O.above) in
-          prune-right-beyond num lt x ns k u c.at-n.result H O c.remove-right.new.nodes c.balance-then-is-before-2.new.nodes (c.remove-right.ensures.beyond O.upper O.above) (c.balance-then-is-before-2.ensures.beyond O.lower (prune lt x O.upper) P);
+          prune-right-beyond num lt x ns k u c.at-n.result H O c.remove-right.new.nodes c.balance-then-is_before-2.new.nodes (c.remove-right.ensures.beyond O.upper O.above) (c.balance-then-is_before-2.ensures.beyond O.lower (prune lt x O.upper) P);
     }
 
-pub returns-else-is-before-2 : goal.returns-else-is-before-2
-returns-else-is-before-2 g t c =
+pub returns-else-is_before-2 : goal.returns-else-is_before-2
+returns-else-is_before-2 g t c =
     let num = g.A.AddressKind.num in
     let lt = before num in
     let a = c.args in
@@ -146,7 +146,7 @@ returns-else-is-before-2 g t c =
     record {
       made = λ u H.
           let O = opened num ns k c.at-n.result u H (c.at-n.ensures u H) in
-          subst (λ v. Held num c.merge.new.nodes c.merge.result v) (sym (prune-here-is num lt x ns k u c.at-n.result H O (sym c.if-is-before.ensures) (sym c.if-is-before-2.ensures))) (c.merge.ensures.made O.lower O.upper (beside num lt x ns k u c.at-n.result H O));
+          subst (λ v. Held num c.merge.new.nodes c.merge.result v) (sym (prune-here-is num lt x ns k u c.at-n.result H O (sym c.if-is_before.ensures) (sym c.if-is_before-2.ensures))) (c.merge.ensures.made O.lower O.upper (beside num lt x ns k u c.at-n.result H O));
       beyond = λ u H.
           let O = opened num ns k c.at-n.result u H (c.at-n.ensures u H) in
           beside-beyond num lt x ns k u c.at-n.result H O c.merge.new.nodes (c.merge.ensures.beyond O.lower O.upper (beside num lt x ns k u c.at-n.result H O));

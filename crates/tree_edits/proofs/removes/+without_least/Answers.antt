@@ -8,8 +8,8 @@ use Rattle.tree_edits.proofs.Prunes.{without_keeps}
 use Rattle.tree_edits.proofs.Leasts.{without-here, without-below, without-parts, without-beyond}
 use Rattle.tree_edits.proofs.removes.+without_least.Goals as goal
 
-pub without-least-left-requires : goal.without-least-left-requires
-without-least-left-requires g t c κs within =
+pub without_least-left-requires : goal.without_least-left-requires
+without_least-left-requires g t c κs within =
     let num = g.A.AddressKind.num in
     let a = c.args in
     let ns = a.nodes.now in
@@ -34,7 +34,7 @@ balance-requires g t c =
     let f = stored_falls num ns k p.0 c.at-n.result p.1 O in
     let B : Balanced (node O.lower k c.at-n.result.rule O.upper) = subst Balanced O.is p.2 in
     let h : height p.0 ≡ max (height O.lower) (height O.upper) + 1 = ap height O.is in
-    let P = without-parts num ns k p.0 c.at-n.result O p.1 c.without-least-left.new.nodes c.without-least-left.result c.without-least-left.auto.nodes (c.without-least-left.ensures.made O.lower O.below) (c.without-least-left.ensures.beyond O.lower O.below) in
+    let P = without-parts num ns k p.0 c.at-n.result O p.1 c.without_least-left.new.nodes c.without_least-left.result c.without_least-left.auto.nodes (c.without_least-left.ensures.made O.lower O.below) (c.without_least-left.ensures.beyond O.lower O.below) in
     record { parts = (without O.lower, O.upper, P, omega (arith, (without_keeps O.lower B.2).1), omega arith) }
 
 pub returns-then-n-eq0 : goal.returns-then-n-eq0
@@ -59,10 +59,10 @@ returns-else-n-eq0 g t c =
     record {
       made = λ u H.
           let O = opened num ns k c.at-n.result u H (c.at-n.ensures u H) in
-          let P = without-parts num ns k u c.at-n.result O H c.without-least-left.new.nodes c.without-least-left.result c.without-least-left.auto.nodes (c.without-least-left.ensures.made O.lower O.below) (c.without-least-left.ensures.beyond O.lower O.below) in
+          let P = without-parts num ns k u c.at-n.result O H c.without_least-left.new.nodes c.without_least-left.result c.without_least-left.auto.nodes (c.without_least-left.ensures.made O.lower O.below) (c.without_least-left.ensures.beyond O.lower O.below) in
           subst (λ v. Held num c.balance.new.nodes c.balance.result v) (sym (without-below num ns k u c.at-n.result O c.if-n-eq0.false)) (c.balance.ensures.made (without O.lower) O.upper P);
       beyond = λ u H.
           let O = opened num ns k c.at-n.result u H (c.at-n.ensures u H) in
-          let P = without-parts num ns k u c.at-n.result O H c.without-least-left.new.nodes c.without-least-left.result c.without-least-left.auto.nodes (c.without-least-left.ensures.made O.lower O.below) (c.without-least-left.ensures.beyond O.lower O.below) in
-          without-beyond num ns k u c.at-n.result O c.without-least-left.new.nodes c.balance.new.nodes (c.without-least-left.ensures.beyond O.lower O.below) (c.balance.ensures.beyond (without O.lower) O.upper P);
+          let P = without-parts num ns k u c.at-n.result O H c.without_least-left.new.nodes c.without_least-left.result c.without_least-left.auto.nodes (c.without_least-left.ensures.made O.lower O.below) (c.without_least-left.ensures.beyond O.lower O.below) in
+          without-beyond num ns k u c.at-n.result O c.without_least-left.new.nodes c.balance.new.nodes (c.without_least-left.ensures.beyond O.lower O.below) (c.balance.ensures.beyond (without O.lower) O.upper P);
     }

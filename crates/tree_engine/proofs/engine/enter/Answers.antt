@@ -11,8 +11,8 @@ use Rattle.tree_engine.proofs.Spares.{free_within, all_used, taken_off}
 use Rattle.tree_engine.proofs.Changes.{enter_rules, enter_keeps}
 use Rattle.tree_engine.proofs.engine.enter.Goals as goal
 
-pub take-node-taken-requires : goal.take-node-taken-requires
-take-node-taken-requires g c =
+pub take_node-taken-requires : goal.take_node-taken-requires
+take_node-taken-requires g c =
     let num = g.A.AddressKind.num in
     let ns = c.args.nodes.now in
     let h = c.args.heads in
@@ -28,7 +28,7 @@ insert-root-requires g c =
     let h = c.args.heads in
     let t = whole ns h.root in
     let S = unseal (Coded-set g.row.A.coded) num ns h c.requires.ok in
-    let T = c.take-node-taken in
+    let T = c.take_node-taken in
     record {
       free = (T.ensures.within.0, T.ensures.within.1.0);
       tree = (
@@ -47,7 +47,7 @@ returns g c =
     let h = c.args.heads in
     let t = whole ns h.root in
     let S = unseal (Coded-set g.row.A.coded) num ns h c.requires.ok in
-    let T = c.take-node-taken in
+    let T = c.take_node-taken in
     let I = c.insert-root in
     let off : uses T.result.node t ≡ 0 = ∥∥₁_elim c.requires.ok (ℕ_set _ _) (λ K. taken_off ns (λ j. uses j t) T.result.node T.result.free T.result.fresh T.ensures.within.0 (T.ensures.shared (λ j. uses j t) K.shared)) in
     let M = I.ensures.made t S.held off in

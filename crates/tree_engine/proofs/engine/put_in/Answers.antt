@@ -26,8 +26,8 @@ enter-requires g c =
     let m = missing num ns c.find-k.result F.0 F.1 (hop_of (rules_at num ns h) (num c.args.rule.start) (num c.args.rule.finish)) F.2 c.if-k-eq0.true in
     record { ok = c.requires.ok; room = c.requires.room m; forward = c.requires.forward; absent = m }
 
-pub set-hop-requires : goal.set-hop-requires
-set-hop-requires g c =
+pub set_hop-requires : goal.set_hop-requires
+set_hop-requires g c =
     let num = g.A.AddressKind.num in
     let ns = c.args.nodes.now in
     let h = c.args.heads in
@@ -46,8 +46,8 @@ returns g c =
     let F = c.find-k.ensures.held t S.held S.canonical in
     let there = present num ns k F.0 F.1 (hop_of (rules_at num ns h) (num c.args.rule.start) (num c.args.rule.finish)) F.2 c.if-k-eq0.false in
     let p : 0 < k = omega (arith, c.if-k-eq0.false) in
-    let M = c.set-hop.ensures.made h.root t S.held in
+    let M = c.set_hop.ensures.made h.root t S.held in
     record {
-      ok = ∥∥₁_elim c.requires.ok ∥∥₁_prop (λ K. ∣ amend-kept num ns c.set-hop.new.nodes h k c.args.rule.hop c.args.rule S (c.find-k.ensures.place t S.held) p M K c.requires.forward there c.set-hop.auto.nodes c.set-hop.ensures.only ∣₁);
-      after = amend-rules_at num ns c.set-hop.new.nodes h k c.args.rule.hop c.args.rule S (c.find-k.ensures.place t S.held) p M;
+      ok = ∥∥₁_elim c.requires.ok ∥∥₁_prop (λ K. ∣ amend-kept num ns c.set_hop.new.nodes h k c.args.rule.hop c.args.rule S (c.find-k.ensures.place t S.held) p M K c.requires.forward there c.set_hop.auto.nodes c.set_hop.ensures.only ∣₁);
+      after = amend-rules_at num ns c.set_hop.new.nodes h k c.args.rule.hop c.args.rule S (c.find-k.ensures.place t S.held) p M;
     }

@@ -34,8 +34,8 @@ remove-root-requires g c =
     let S = unseal (Coded-set g.row.A.coded) g.A.AddressKind.num ns h c.requires.ok in
     (whole ns h.root, S.held, S.balanced, omega (arith, S.low))
 
-pub give-node-requires : goal.give-node-requires
-give-node-requires g c =
+pub give_node-requires : goal.give_node-requires
+give_node-requires g c =
     let num = g.A.AddressKind.num in
     let ns = c.args.nodes.now in
     let h = c.args.heads in
@@ -44,8 +44,8 @@ give-node-requires g c =
     let w = link-within num ns c.find-i.result F.0 F.1 in
     (omega (arith, c.if-i-eq0.false), omega (arith, c.remove-root.auto.nodes))
 
-pub overflow-sub-result : goal.overflow-sub-result
-overflow-sub-result g c =
+pub overflow_sub-result : goal.overflow_sub-result
+overflow_sub-result g c =
     let num = g.A.AddressKind.num in
     let ns = c.args.nodes.now in
     let h = c.args.heads in
@@ -68,7 +68,7 @@ returns g c =
     let w = link-within num ns k F.0 F.1 in
     let p : 0 < k = omega (arith, c.if-i-eq0.false) in
     let R = c.remove-root in
-    let G = c.give-node in
+    let G = c.give_node in
     record {
       ok = ∥∥₁_elim c.requires.ok ∥∥₁_prop (λ K. ∣ leave_kept num ns R.new.nodes G.new.nodes h k R.result x S R.auto.nodes G.auto.nodes (c.find-i.ensures.place t S.held) p (R.ensures.made t S.held) G.ensures.only K there w (R.ensures.beyond t S.held) G.ensures.linked ∣₁);
       after = leave_rules num ns R.new.nodes G.new.nodes h k R.result x S R.auto.nodes G.auto.nodes (c.find-i.ensures.place t S.held) p (R.ensures.made t S.held) G.ensures.only;

@@ -12,4 +12,4 @@ returns-then-free-eq0 g c =
 pub returns-else-free-eq0 : goal.returns-else-free-eq0
 returns-else-free-eq0 g c =
     let a = c.args in
-    record { within = (omega arith, (omega arith, omega arith)); shared = λ u S. take-first a.nodes.now u a.free a.fresh c.node-at.result (omega arith) c.node-at.ensures S }
+    record { within = (omega arith, (omega arith, omega arith)); shared = λ u S. take-first a.nodes.now u a.free a.fresh c.node_at.result (omega arith) c.node_at.ensures S }

@@ -68,8 +68,8 @@ loop-k-preserved g c =
           (w.5 ∙ ap (λ o. or_else o (first_of (starts_by d) (rest num w.1))) (cover-left num ns c.loop-k.k w.0 c.at-n.result O d w.4 c.if-lt.ensures)) b refl,
     )
 
-pub first-rest-requires : goal.first-rest-requires
-first-rest-requires g c = let w = c.loop-k.invariant c.requires.0 c.requires.1 c.requires.2 in (w.1, w.3)
+pub first_rest-requires : goal.first_rest-requires
+first_rest-requires g c = let w = c.loop-k.invariant c.requires.0 c.requires.1 c.requires.2 in (w.1, w.3)
 
 pub returns : goal.returns
 returns g c =
@@ -77,5 +77,5 @@ returns g c =
     let d = num c.args.d in
     λ t H C.
     let w = c.loop-k.invariant t H C in
-    c.first-rest.ensures w.1 w.3
+    c.first_rest.ensures w.1 w.3
     ∙ sym (least_is_first (rules_in num t) d C ∙ w.5 ∙ ap (λ o. or_else o (first_of (starts_by d) (rest num w.1))) (none_left num c.args.nodes.now c.loop-k.k w.0 (λ r. covers r d) w.2 c.loop-k-test.false).0)

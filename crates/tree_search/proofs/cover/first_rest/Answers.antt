@@ -10,8 +10,8 @@ returns-then-k-eq0 g c = let num = g.A.AddressKind.num in λ t H. sym (none_left
 pub at-n-requires : goal.at-n-requires
 at-n-requires g c = record { some = omega (arith, c.if-k-eq0.false); held = c.requires }
 
-pub first-started-requires : goal.first-started-requires
-first-started-requires g c =
+pub first_started-requires : goal.first_started-requires
+first_started-requires g c =
     let O = opened g.A.AddressKind.num c.args.nodes.now c.args.k c.at-n.result c.requires.0 c.requires.1 (c.at-n.ensures c.requires.0 c.requires.1) in
     (O.upper, O.above)
 
@@ -22,7 +22,7 @@ returns-then-lt g c =
     let d = num c.args.d in
     λ t H.
     let O = opened num ns c.args.k c.at-n.result t H (c.at-n.ensures t H) in
-    c.first-started.ensures O.upper O.above ∙ sym (ap (first_of (starts_by d)) (rest_is num ns c.args.k t c.at-n.result O) ∙ here-first num ns c.args.k t c.at-n.result O d true c.if-lt.ensures)
+    c.first_started.ensures O.upper O.above ∙ sym (ap (first_of (starts_by d)) (rest_is num ns c.args.k t c.at-n.result O) ∙ here-first num ns c.args.k t c.at-n.result O d true c.if-lt.ensures)
 
 pub returns : goal.returns
 returns g c =

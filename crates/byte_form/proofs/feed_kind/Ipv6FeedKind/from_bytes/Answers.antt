@@ -19,5 +19,5 @@ halves bs high low l h w =
 pub returns : goal.returns
 returns c =
     halves c.args.bytes.now _ _ (omega arith)
-    (c.new.ensures.high ∙ c.read.ensures.value ∙ ap (number_from_digits 256) c.split-at.ensures.front)
-    (c.new.ensures.low ∙ c.read-2.ensures.value ∙ ap (number_from_digits 256) c.split-at.ensures.back)
+    (c.new.ensures.high ∙ c.read.ensures.value ∙ ap (number_from_digits 256) c.split_at.ensures.front)
+    (c.new.ensures.low ∙ c.read-2.ensures.value ∙ ap (number_from_digits 256) c.split_at.ensures.back)

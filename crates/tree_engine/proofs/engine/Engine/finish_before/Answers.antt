@@ -3,8 +3,8 @@ use Rattle.tree.specs.Nodes.{whole}
 use Rattle.tree_engine.proofs.Seal.{unseal}
 use Rattle.tree_engine.proofs.engine.Engine.finish_before.Goals as goal
 
-pub finish-before-requires : goal.finish-before-requires
-finish-before-requires g c =
+pub finish_before-requires : goal.finish_before-requires
+finish_before-requires g c =
     let s = c.args.self.now in
     let S = unseal (Coded-set g.row.A.coded) g.A.AddressKind.num s.nodes.now s.heads c.requires.ok in
     (whole s.nodes.now s.heads.root, S.held, S.canonical)

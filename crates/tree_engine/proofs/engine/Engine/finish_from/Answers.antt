@@ -3,8 +3,8 @@ use Rattle.tree.specs.Nodes.{whole}
 use Rattle.tree_engine.proofs.Seal.{unseal}
 use Rattle.tree_engine.proofs.engine.Engine.finish_from.Goals as goal
 
-pub finish-from-requires : goal.finish-from-requires
-finish-from-requires g c =
+pub finish_from-requires : goal.finish_from-requires
+finish_from-requires g c =
     let s = c.args.self.now in
     let S = unseal (Coded-set g.row.A.coded) g.A.AddressKind.num s.nodes.now s.heads c.requires.ok in
     (whole s.nodes.now s.heads.root, S.held, S.canonical)

@@ -3,8 +3,8 @@ use Rattle.tree.specs.Nodes.{whole}
 use Rattle.tree_engine.proofs.Seal.{unseal}
 use Rattle.tree_engine.proofs.engine.Engine.hop_of.Goals as goal
 
-pub hop-in-requires : goal.hop-in-requires
-hop-in-requires g c =
+pub hop_in-requires : goal.hop_in-requires
+hop_in-requires g c =
     let s = c.args.self.now in
     let S = unseal (Coded-set g.row.A.coded) g.A.AddressKind.num s.nodes.now s.heads c.requires.ok in
     (whole s.nodes.now s.heads.root, S.held, S.canonical)

@@ -6,17 +6,17 @@ use Rattle.tree_store.specs.Stores.{rules_held, mirror_num}
 use Rattle.tree_store.proofs.Pairs.{second_kept, canonical-held, all_bounded, same-held, no_start, found-start}
 use Rattle.tree_store.proofs.pair.Pair.greatest_start.Goals as goal
 
-pub least-finish-requires : goal.least-finish-requires
-least-finish-requires g c = record { ok = second_kept g.A.AddressKind.num g.A.AddressKind.last g.met.A.AddressKind.bounded c.args.self.now c.requires.ok }
+pub least_finish-requires : goal.least_finish-requires
+least_finish-requires g c = record { ok = second_kept g.A.AddressKind.num g.A.AddressKind.last g.met.A.AddressKind.bounded c.args.self.now c.requires.ok }
 
-pub returns-in-default : goal.returns-in-default
-returns-in-default g c =
+pub returns-in_default : goal.returns-in_default
+returns-in_default g c =
     let num = g.A.AddressKind.num in
     let last = g.A.AddressKind.last in
     let bounded = g.met.A.AddressKind.bounded in
     let s = c.args.self.now in
     no_start num last bounded (rules_held num s) (rules_of (mirror_num num last) s.mirrors) (canonical-held num last bounded s c.requires.ok (Coded-set g.row.A.coded)) (all_bounded num last bounded s c.requires.ok) (same-held num last bounded s c.requires.ok)
-    c.args.d c.of.result c.of.ensures c.in-default.ensures
+    c.args.d c.of.result c.of.ensures c.in_default.ensures
 
 pub returns : goal.returns
 returns g c =

@@ -14,7 +14,7 @@ put-requires g c =
     let last = g.A.AddressKind.last in
     let bounded = g.met.A.AddressKind.bounded in
     let s = c.args.self.now in
-    let a = c.in-ok-may-put.ensures in
+    let a = c.in_ok-may_put.ensures in
     record {
       ok = first-kept num last bounded s c.requires.ok;
       forward = put_forward (capacity_of s) (rules_held num s) (num c.args.start) (num c.args.finish) a;
@@ -30,7 +30,7 @@ put-requires-2 g c =
     let u = num c.args.start in
     let v = num c.args.finish in
     let R = rules_held num s in
-    let a = c.in-ok-may-put.ensures in
+    let a = c.in_ok-may_put.ensures in
     record {
       ok = second_kept num last bounded s c.requires.ok;
       forward = mirror_forward last u v _ _ (ap (λ x. last - num x) c.of.ensures) (ap (λ x. last - num x) c.of-2.ensures) (put_forward (capacity_of s) R u v a);
@@ -49,7 +49,7 @@ returns g c =
     let v = num c.args.finish in
     let P = c.put in
     let Q = c.put-2 in
-    let a = c.in-ok-may-put.ensures in
+    let a = c.in_ok-may_put.ensures in
     let R = rules_held num s in
     record {
       answer = a;

@@ -24,7 +24,7 @@ returns g c =
     let v = num c.args.finish in
     let P = c.take in
     let Q = c.take-2 in
-    let a = c.in-ok-may-take.ensures in
+    let a = c.in_ok-may_take.ensures in
     let R = rules_held num s in
     record {
       answer = a;
