@@ -23,7 +23,7 @@ returns-in_err-apply_all g c =
     let xs = c.args.list.now in
     let l = length-changes k.num xs in
     let f = c.in_err-apply_all.ensures in
-    let p = err_from_is_err_and c.from-residual.result c.from-residual.ensures.1 in
+    let p = err_from_is_err_and c.from_residual.result c.from_residual.ensures.1 in
     let w = said_refused k.last (q.capacity s) (q.rules s) (numbered_changes k.num xs) c.end-n.result c.args.batch.count (q.rules c.apply_all.new.store) c.in_err-apply_all.field-0.0
     c.end-n.ensures (omega (arith, l)) f.answer c.apply_all.ensures.after in
     record {
@@ -32,7 +32,7 @@ returns-in_err-apply_all g c =
       room = c.apply_all.ensures.room;
       kept = c.apply_all.ensures.kept;
       rest = drop_at c.apply_all.new.list xs c.end-n.result c.args.batch.count c.end-n.ensures c.apply_all.ensures.rest;
-      back = λ e. absurd (not_ok c.from-residual.result p.0 p.1 e);
+      back = λ e. absurd (not_ok c.from_residual.result p.0 p.1 e);
     }
 
 pub returns : goal.returns

@@ -32,7 +32,7 @@ insert-left-requires g t c κs within =
     let s : stored_height ns c.at-n.result.left ≡ height O.lower = stored_is num ns c.at-n.result.left O.lower O.below in
     let s' : stored_height ns a.root ≡ height p.0 = stored_is num ns a.root p.0 p.1 in
     let m : stored_height ns a.root ≡ t = c.decreases in
-    (omega arith, (within, (c.requires.free.0, (c.requires.free.1, (O.lower, O.below, B.2, omega arith, omega (arith, ap (λ u. uses a.i u) O.is))))))
+    (omega arith, (within, (c.requires.free, (O.lower, O.below, B.2, omega arith, omega (arith, ap (λ u. uses a.i u) O.is)))))
 
 pub insert-right-requires : goal.insert-right-requires
 insert-right-requires g t c κs within =
@@ -46,7 +46,7 @@ insert-right-requires g t c κs within =
     let s : stored_height ns c.at-n.result.right ≡ height O.upper = stored_is num ns c.at-n.result.right O.upper O.above in
     let s' : stored_height ns a.root ≡ height p.0 = stored_is num ns a.root p.0 p.1 in
     let m : stored_height ns a.root ≡ t = c.decreases in
-    (omega arith, (within, (c.requires.free.0, (c.requires.free.1, (O.upper, O.above, B.3, omega arith, omega (arith, ap (λ u. uses a.i u) O.is))))))
+    (omega arith, (within, (c.requires.free, (O.upper, O.above, B.3, omega arith, omega (arith, ap (λ u. uses a.i u) O.is)))))
 
 pub balance-requires : goal.balance-requires
 balance-requires g t c =
@@ -73,7 +73,7 @@ balance-requires-else-is_before g t c =
     let B : Balanced (node O.lower a.root c.at-n.result.rule O.upper) = subst Balanced O.is p.2 in
     let h : height p.0 ≡ max (height O.lower) (height O.upper) + 1 = ap height O.is in
     let off : uses a.i O.upper ≡ 0 = omega (arith, ap (λ u. uses a.i u) O.is) in
-    let P = grow-right-parts num lt ns a.root a.i a.rule p.0 c.at-n.result p.1 O p.4 c.insert_right.new.nodes c.insert_right.result c.insert_right.auto.nodes (c.insert_right.ensures.made O.upper O.above off) (c.insert_right.ensures.beyond O.upper O.above off) in
+    let P = grow-right-parts num lt ns a.root a.i a.rule p.0 c.at-n.result p.1 O p.4 c.insert-right.new.nodes c.insert-right.result c.insert-right.auto.nodes (c.insert-right.ensures.made O.upper O.above off) (c.insert-right.ensures.beyond O.upper O.above off) in
     record { parts = (O.lower, grow lt O.upper a.i a.rule, P, omega arith, omega (arith, (grow_keeps lt O.upper a.i a.rule B.3).2)) }
 
 pub returns-then-is_before : goal.returns-then-is_before
@@ -105,11 +105,11 @@ returns-else-is_before g t c =
       made = λ u H off.
           let O = opened num ns a.root c.at-n.result u H (c.at-n.ensures u H) in
           let off' : uses a.i O.upper ≡ 0 = omega (arith, ap (λ v. uses a.i v) O.is) in
-          let P = grow-right-parts num lt ns a.root a.i a.rule u c.at-n.result H O off c.insert_right.new.nodes c.insert_right.result c.insert_right.auto.nodes (c.insert_right.ensures.made O.upper O.above off') (c.insert_right.ensures.beyond O.upper O.above off') in
+          let P = grow-right-parts num lt ns a.root a.i a.rule u c.at-n.result H O off c.insert-right.new.nodes c.insert-right.result c.insert-right.auto.nodes (c.insert-right.ensures.made O.upper O.above off') (c.insert-right.ensures.beyond O.upper O.above off') in
           subst (λ v. Held num c.balance-else-is_before.new.nodes c.balance-else-is_before.result v) (sym (grow_right_is num lt ns a.root a.i a.rule u c.at-n.result H O off (sym c.if-is_before.ensures))) (c.balance-else-is_before.ensures.made O.lower (grow lt O.upper a.i a.rule) P);
       beyond = λ u H off.
           let O = opened num ns a.root c.at-n.result u H (c.at-n.ensures u H) in
           let off' : uses a.i O.upper ≡ 0 = omega (arith, ap (λ v. uses a.i v) O.is) in
-          let P = grow-right-parts num lt ns a.root a.i a.rule u c.at-n.result H O off c.insert_right.new.nodes c.insert_right.result c.insert_right.auto.nodes (c.insert_right.ensures.made O.upper O.above off') (c.insert_right.ensures.beyond O.upper O.above off') in
-          grow_right_beyond num lt ns a.root a.i a.rule u c.at-n.result H O off c.insert_right.new.nodes c.balance-else-is_before.new.nodes (c.insert_right.ensures.beyond O.upper O.above off') (c.balance-else-is_before.ensures.beyond O.lower (grow lt O.upper a.i a.rule) P);
+          let P = grow-right-parts num lt ns a.root a.i a.rule u c.at-n.result H O off c.insert-right.new.nodes c.insert-right.result c.insert-right.auto.nodes (c.insert-right.ensures.made O.upper O.above off') (c.insert-right.ensures.beyond O.upper O.above off') in
+          grow_right_beyond num lt ns a.root a.i a.rule u c.at-n.result H O off c.insert-right.new.nodes c.balance-else-is_before.new.nodes (c.insert-right.ensures.beyond O.upper O.above off') (c.balance-else-is_before.ensures.beyond O.lower (grow lt O.upper a.i a.rule) P);
     }
