@@ -13,7 +13,7 @@ returns-in-Ok g c =
     let n : unread c.new-reader.result ≡ feed = ap₂ (λ k (f : Bor (List ℕ)). drop k f.now) c.new-reader.ensures.place c.new-reader.ensures.feed in
     record {
       answer = ap (fault_at (size - length (run w feed).left)) (c.in-Ok.ensures.answer ∙ ap (λ xs. (run w xs).end) n);
-      apart = apart w feed (All-from_get_or (λ b. b < 256) feed 0 (λ i h. omega (arith, c.type-inv.feed i)));
+      apart = apart w feed (All-from_get_or (λ b. b < 256) feed 0 (λ i h. omega (arith, c.type_inv.feed i)));
     }
 
 pub returns-in-Err : goal.returns-in-Err
@@ -28,5 +28,5 @@ returns-in-Err g c =
     let p : c.place.result ≡ size - length (run w feed).left = omega (arith, c.place.ensures, s, l, length-drop reader.place reader.feed.now, reader.within) in
     record {
       answer = ap (λ k. Some (k, c.in-Err.refusal)) p ∙ ap (fault_at (size - length (run w feed).left)) (c.in-Err.ensures.answer ∙ ap (λ xs. (run w xs).end) n);
-      apart = apart w feed (All-from_get_or (λ b. b < 256) feed 0 (λ i h. omega (arith, c.type-inv.feed i)));
+      apart = apart w feed (All-from_get_or (λ b. b < 256) feed 0 (λ i h. omega (arith, c.type_inv.feed i)));
     }

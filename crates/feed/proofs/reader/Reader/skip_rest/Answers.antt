@@ -33,7 +33,7 @@ returns g c =
 
 pub returns-in_err-next : goal.returns-in_err-next
 returns-in_err-next g c =
-    let p = err_from_is_err_and c.from-residual.result c.from-residual.ensures.1 in
+    let p = err_from_is_err_and c.from_residual.result c.from_residual.ensures.1 in
     let off = told_refusal g.A.FeedKind.width c.loop.self.place (unread c.loop.self) _ c.in_err-next.ensures.answer in
     record {
       answer = p.1 ∙ ap Err p.2 ∙ off.end ∙ c.loop.invariant.1;

@@ -6,7 +6,7 @@ use Rattle.table.proofs.calls.Table.add.Goals as goal
 pub returns : goal.returns
 returns g c =
     let s = c.args.self.now in
-    let k = g.S.Kind.AddressKind.num in
+    let k = g.Self.Kind.AddressKind.num in
     let q = g.Self.RangeStore in
     let n : is_some (hop_of (q.rules s) (k c.args.start) (k c.args.finish)) ≡ false = search rules in
     let w = undone (q.capacity s) (q.rules s) (q.rules c.put.new.self) (q.rules c.take.new.self) (k c.args.start) (k c.args.finish) c.args.hop

@@ -8,10 +8,10 @@ use Rattle.table.proofs.calls.Table.commit.Goals as goal
 pub returns-in_err-n : goal.returns-in_err-n
 returns-in_err-n g c =
     let q = g.Self.RangeStore in
-    let k = g.S.Kind.AddressKind in
+    let k = g.Self.Kind.AddressKind in
     let s = c.args.self.now in
     let f = c.in_err-n.ensures in
-    let p = err_from_is_err_and c.from-residual.result c.from-residual.ensures.1 in
+    let p = err_from_is_err_and c.from_residual.result c.from_residual.ensures.1 in
     let w = said_refused k.last (q.capacity s) (q.rules s) c.args.batch.count (numbered_changes k.num c.args.list.now) (q.rules c.apply.new.store) c.in_err-n.field-0.0 f.answer c.apply.ensures.after in
     record {
       answer = rw (p.1, p.2) w.answer;
@@ -19,13 +19,13 @@ returns-in_err-n g c =
       room = c.apply.ensures.room;
       kept = c.apply.ensures.kept;
       rest = c.apply.ensures.rest;
-      resolved = λ e. absurd (not_ok c.from-residual.result p.0 p.1 e);
+      resolved = λ e. absurd (not_ok c.from_residual.result p.0 p.1 e);
     }
 
 pub returns-then-resolved_between : goal.returns-then-resolved_between
 returns-then-resolved_between g c =
     let q = g.Self.RangeStore in
-    let k = g.S.Kind.AddressKind in
+    let k = g.Self.Kind.AddressKind in
     let s = c.args.self.now in
     let f = c.in_ok-n.ensures in
     let S = q.rules c.apply.new.store in
@@ -45,7 +45,7 @@ returns-then-resolved_between g c =
 pub returns : goal.returns
 returns g c =
     let q = g.Self.RangeStore in
-    let k = g.S.Kind.AddressKind in
+    let k = g.Self.Kind.AddressKind in
     let s = c.args.self.now in
     let f = c.in_ok-n.ensures in
     let cs = numbered_changes k.num c.args.list.now in
