@@ -2,7 +2,7 @@
 use Rattle.std.specs.Prelude.{ℕ, ◌-◌, List, length, Some, None, Ok, Err, Result}
 use Rattle.rules.specs.declared.refusal.Refusal.{Refusal}
 use Rattle.rules.specs.declared.refusal.Refusal.TheVariants.{FeedEnds, NotAChange}
-use Rattle.batch.specs.declared.change.Change.{Change as Change-of}
+use Rattle.batch.specs.declared.change.Change.{Change as ChangeOf}
 use Rattle.feed.specs.declared.record.Record.{Record}
 use Rattle.feed.specs.declared.record.Record.TheVariants.{Change, Lookup, Batch}
 use Rattle.feed.specs.Records.{record_told}
@@ -32,13 +32,13 @@ record_placed num (Ok (Some p)) = Ok (Some (p.0, record_told num p.1))
 record_placed num (Err e) = Err e
 
 -- inside a batch a record has to come, and it has to be a change
-abbrev pub as_change : Read (Record ℕ × List ℕ) → Read (Change-of ℕ × List ℕ)
+abbrev pub as_change : Read (Record ℕ × List ℕ) → Read (ChangeOf ℕ × List ℕ)
 as_change (Ok None) = Err FeedEnds
 as_change (Ok (Some (Change c, rest))) = Ok (Some (c, rest))
 as_change (Ok (Some (Lookup a, rest))) = Err NotAChange
 as_change (Ok (Some (Batch n, rest))) = Err NotAChange
 as_change (Err e) = Err e
 
-abbrev pub change_placed : {A : Type 0} → (A → ℕ) → Result (ℕ × Change-of A) Refusal → Read (ℕ × Change-of ℕ)
+abbrev pub change_placed : {A : Type 0} → (A → ℕ) → Result (ℕ × ChangeOf A) Refusal → Read (ℕ × ChangeOf ℕ)
 change_placed num (Ok p) = Ok (Some (p.0, numbered_change num p.1))
 change_placed num (Err e) = Err e

@@ -1,6 +1,6 @@
 -- A run of a reader to the end of its bytes.
 use Rattle.std.specs.Prelude.{◌≡◌, ℕ, zero, suc, ◌-◌, true, List, [], ◌∷◌, ◌++◌, length, is_ok, Some, None, Ok, Err, Option, Result}
-use Rattle.std.specs.List.{flat_map, AllByRecursion as All}
+use Rattle.std.specs.List.{flat_map, AllByRecursion}
 use Rattle.rules.specs.declared.refusal.Refusal.{Refusal}
 use Rattle.feed.specs.declared.record.Record.{Record}
 use Rattle.feed.specs.Records.{encode, WellFormed}
@@ -43,5 +43,5 @@ fault size t = fault_at (size - length t.left) t.end
 -- the feed is the bytes of the records read, in order, and then the bytes left: nothing is lost or read twice
 pub record Apart (w : ℕ) (feed : List ℕ) (t : Run) : Type 0 where
   pub bytes : flat_map (encode w) t.records ++ t.left ≡ feed
-  pub formed : All (WellFormed w) t.records
+  pub formed : AllByRecursion (WellFormed w) t.records
   pub whole : is_ok t.end ≡ true → flat_map (encode w) t.records ≡ feed

@@ -5,7 +5,7 @@ use Rattle.std.proofs.lemmas.Bool.Decides.{nat_tests}
 use Rattle.rules.specs.declared.refusal.Refusal.{Refusal}
 use Rattle.rules.specs.Rules.{Rule}
 use Rattle.rules.specs.Conflicts.{MostSpecific}
-use Rattle.table.specs.Answers.{lookup_answer, Right as Looked-right}
+use Rattle.table.specs.Answers.{lookup_answer, Right as LookedRight}
 use Rattle.table.proofs.Lookups.{lookup_right}
 use Rattle.forward.specs.Rows.{hop_then, hops_of, first_refused, row_answer, Written, RightTo}
 
@@ -47,7 +47,7 @@ refusal_at R (d ∷ ds) h = go (lookup_answer R d) refl (refusal_at R ds) h
 -- a refused address has no most specific rule
 none_specific : (R : List Rule) (d : ℕ) (e : Refusal) → lookup_answer R d ≡ Err e → (r : Rule) → MostSpecific R d r → ⊥
 none_specific R d e p r m =
-    elim (subst (Looked-right R d) p (lookup_right R d)) [
+    elim (subst (LookedRight R d) p (lookup_right R d)) [
       | inl u ↦ u.1 (r, (m.held, m.fits))
       | inr a ↦ a.2 r m
     ]
@@ -90,7 +90,7 @@ module _ (R : List Rule) (ds before : List ℕ) where
           within = rw n (within R ds);
           found = λ j h.
               let x = hop_at R ds j (omega arith) in
-              (x.0, (subst (Looked-right R (get_or ds j 0)) x.1.0 (lookup_right R (get_or ds j 0)), sym (get_or-take i hs j 0 h) ∙ ap (λ xs. get_or xs j 0) t ∙ x.1.1));
+              (x.0, (subst (LookedRight R (get_or ds j 0)) x.1.0 (lookup_right R (get_or ds j 0)), sym (get_or-take i hs j 0 h) ∙ ap (λ xs. get_or xs j 0) t ∙ x.1.1));
           refused = λ h.
               let x = refusal_at R ds (omega arith) in
               none_specific R (get_or ds i 0) x.0 (ap (λ m. lookup_answer R (get_or ds m 0)) n ∙ x.1);

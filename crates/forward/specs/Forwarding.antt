@@ -3,25 +3,25 @@ use Rattle.std.specs.Prelude.{ℕ, cond, List, Result}
 use Rattle.address.specs.Numbers.{ipv4_num}
 use Rattle.rules.specs.declared.refusal.Refusal.{Refusal}
 use Rattle.rules.specs.Rules.{Rule}
-use Rattle.table.specs.Answers.{found, lookup_answer, Right as Looked-right}
+use Rattle.table.specs.Answers.{found, lookup_answer, Right as LookedRight}
 use Rattle.prefix.specs.Blocks.{Blocked, blocked}
 use Rattle.forward.specs.declared.question.Forwarding.{Forwarding}
 use Rattle.forward.specs.declared.question.Forwarding.TheVariants.{NotForwarded, Looked}
 
 -- the answer with its rule by numbers
 pub data Answer : Type 0 where
-  NotForwarded : Answer
-  LookedUp : Result Rule Refusal → Answer
+  not_forwarded : Answer
+  looked_up : Result Rule Refusal → Answer
 
 abbrev pub told : Forwarding → Answer
-told NotForwarded = NotForwarded
-told (Looked r) = LookedUp (found ipv4_num r)
+told NotForwarded = not_forwarded
+told (Looked r) = looked_up (found ipv4_num r)
 
 -- a blocked destination is not forwarded, any other is looked up
 abbrev pub forward_answer : List Rule → ℕ → Answer
-forward_answer R d = cond (blocked d) NotForwarded (LookedUp (lookup_answer R d))
+forward_answer R d = cond (blocked d) not_forwarded (looked_up (lookup_answer R d))
 
 -- not forwarded if, and only if, a block covers d; else the lookup's answer is right
 abbrev pub Right : List Rule → ℕ → Answer → Type 0
-Right R d NotForwarded = Blocked d
-Right R d (LookedUp r) = (Blocked d → ⊥) × Looked-right R d r
+Right R d not_forwarded = Blocked d
+Right R d (looked_up r) = (Blocked d → ⊥) × LookedRight R d r

@@ -2,7 +2,7 @@
 
 ghost use Rattle.std.specs.Prelude.{◌≡◌};
 ghost use Rattle.address.specs.Numbers.{ipv4_num};
-ghost use Rattle.rules.specs.Rules.{range as range-from, covers as covering};
+ghost use Rattle.rules.specs.Rules.{range as range_from, covers as covering};
 ghost use Rattle.prefix.specs.Prefixes.{prefix_of, made, range_of};
 ghost use Rattle.prefix.specs.Numbers.{prefix4};
 
@@ -40,7 +40,7 @@ impl Prefix4 {
 
     /// The first and the last address that the prefix stands for.
     pub fn range(&self) -> (Ipv4, Ipv4)
-        ensures { range-from (ipv4_num result.0) (ipv4_num result.1) ≡ range_of 32 (prefix4 self.now) }
+        ensures { range_from (ipv4_num result.0) (ipv4_num result.1) ≡ range_of 32 (prefix4 self.now) }
     {
         let last = widths::last(32, u128::from(self.value), self.length);
         (self.value(), Ipv4::new(last as u32))

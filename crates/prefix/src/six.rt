@@ -2,7 +2,7 @@
 
 ghost use Rattle.std.specs.Prelude.{◌≡◌};
 ghost use Rattle.address.specs.Numbers.{ipv6_num};
-ghost use Rattle.rules.specs.Rules.{range as range-from, covers as covering};
+ghost use Rattle.rules.specs.Rules.{range as range_from, covers as covering};
 ghost use Rattle.prefix.specs.Prefixes.{prefix_of, made, range_of};
 ghost use Rattle.prefix.specs.Numbers.{prefix6};
 
@@ -57,7 +57,7 @@ impl Prefix6 {
 
     /// The first and the last address that the prefix stands for.
     pub fn range(&self) -> (Ipv6, Ipv6)
-        ensures { range-from (ipv6_num result.0) (ipv6_num result.1) ≡ range_of 128 (prefix6 self.now) }
+        ensures { range_from (ipv6_num result.0) (ipv6_num result.1) ≡ range_of 128 (prefix6 self.now) }
     {
         let last = widths::last(128, self.value, self.length);
         (self.value(), address(last))

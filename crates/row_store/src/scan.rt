@@ -2,7 +2,7 @@
 
 ghost use Rattle.std.specs.Prelude.{◌≡◌, suc, true, map, if◌then◌else◌, Some, None};
 ghost use Rattle.std.specs.Option.{option_map};
-ghost use Rattle.rules.specs.Rules.{hop_of, range, ordered, same as same-range, earlier, covers as covering};
+ghost use Rattle.rules.specs.Rules.{hop_of, range, ordered, same as same_range, earlier, covers as covering};
 ghost use Rattle.rules.specs.Search.{least_finish, greatest_start, better, closer};
 ghost use Rattle.rules.specs.Boundaries.{next_boundary, nearest};
 ghost use Rattle.rules.specs.Answers.{numbered, told, place_of};
@@ -12,7 +12,7 @@ use rules::Rule;
 
 /// Whether x has the range [u, v].
 pub(crate) fn is_range<A: AddressKind>(x: &Rule<A>, u: A, v: A) -> bool
-    ensures { result ≡ same-range (range (A.AddressKind.num u) (A.AddressKind.num v)) (numbered A.AddressKind.num x.now) }
+    ensures { result ≡ same_range (range (A.AddressKind.num u) (A.AddressKind.num v)) (numbered A.AddressKind.num x.now) }
 {
     u.same(x.start) && v.same(x.finish)
 }

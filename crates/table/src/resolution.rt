@@ -1,7 +1,7 @@
 //! Whether an address has a most specific rule, asked of a store.
 
 ghost use Rattle.std.specs.Prelude.{◌≡◌};
-ghost use Rattle.rules.specs.Rules.{same as same-rule};
+ghost use Rattle.rules.specs.Rules.{same as same_rule};
 ghost use Rattle.rules.specs.Conflicts.{resolved_at, resolved_in};
 ghost use Rattle.table.specs.Answers.{told_rule};
 
@@ -10,7 +10,7 @@ use rules::RangeStore;
 
 /// Whether two answers of a store are one range.
 pub(crate) fn same_range<A: AddressKind>(one: &(A, A, u16), other: &(A, A, u16)) -> bool
-    ensures { result ≡ same-rule (told_rule A.AddressKind.num one.now) (told_rule A.AddressKind.num other.now) }
+    ensures { result ≡ same_rule (told_rule A.AddressKind.num one.now) (told_rule A.AddressKind.num other.now) }
 {
     one.0.same(other.0) && one.1.same(other.1)
 }

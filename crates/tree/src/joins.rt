@@ -1,7 +1,7 @@
 //! Reading the node behind a link, and making one over two trees.
 
 ghost use Rattle.std.specs.Prelude.{◌≡◌, ◌-◌, ◌<◌, ◌≤◌, length, slice_index_or, slice_set};
-ghost use Rattle.tree.specs.Tree.{RuleTree, node as node_of, height as height-of};
+ghost use Rattle.tree.specs.Tree.{RuleTree, node as node_of, height as height_of};
 ghost use Rattle.tree.specs.Nodes.{Held, Shows, low_with, Parts, Only};
 
 use crate::node::Node;
@@ -36,7 +36,7 @@ pub fn write<A: AddressKind>(nodes: &mut [Node<A>], i: usize, n: Node<A>)
 /// The height of the tree behind a link.
 pub(crate) fn height_at<A: AddressKind>(nodes: &[Node<A>], k: u16) -> u8
     requires { (t : RuleTree A) × Held A.AddressKind.num nodes.now k t }
-    ensures { (t : RuleTree A) → Held A.AddressKind.num nodes.now k t → result ≡ height-of t }
+    ensures { (t : RuleTree A) → Held A.AddressKind.num nodes.now k t → result ≡ height_of t }
 {
     if k == 0 { 0 } else { at(nodes, k).height }
 }
@@ -55,7 +55,7 @@ fn least_start<A: AddressKind>(nodes: &[Node<A>], k: u16, x: A) -> A
 
 /// Makes i the node of a rule over two trees.
 pub fn join<A: AddressKind>(nodes: &mut [Node<A>], i: u16, rule: Rule<A>, left: u16, right: u16)
-    requires parts { (l r : RuleTree A) × Parts A.AddressKind.num nodes.old i left right l r × (height-of l < 255) × (height-of r < 255) }
+    requires parts { (l r : RuleTree A) × Parts A.AddressKind.num nodes.old i left right l r × (height_of l < 255) × (height_of r < 255) }
     ensures made { (l r : RuleTree A) → Parts A.AddressKind.num nodes.old i left right l r → Held A.AddressKind.num nodes.new i (node_of l i rule r) }
     ensures only { Only i nodes.old nodes.new }
 {

@@ -1,7 +1,7 @@
 //! Turns: how a tree is made anew where one side is higher by two.
 
 ghost use Rattle.std.specs.Prelude.{◌<◌};
-ghost use Rattle.tree.specs.Tree.{RuleTree, node as node_of, height as height-of, balance as balanced, turn_right, turn_left};
+ghost use Rattle.tree.specs.Tree.{RuleTree, node as node_of, height as height_of, balance as balanced, turn_right, turn_left};
 ghost use Rattle.tree.specs.Nodes.{Held, Parts, Beyond};
 ghost use Rattle.tree.specs.Arms.{Arms, Short, Apart};
 
@@ -44,7 +44,7 @@ fn turn_right<A: AddressKind>(
     left: u16,
     right: u16,
 ) -> u16
-    requires parts { (l r : RuleTree A) × Parts A.AddressKind.num nodes.old i left right l r × (height-of l < 250) × (height-of r < 250) × (0 < height-of l) }
+    requires parts { (l r : RuleTree A) × Parts A.AddressKind.num nodes.old i left right l r × (height_of l < 250) × (height_of r < 250) × (0 < height_of l) }
     ensures made { (l r : RuleTree A) → Parts A.AddressKind.num nodes.old i left right l r → Held A.AddressKind.num nodes.new result (turn_right l i rule r) }
     ensures beyond { (l r : RuleTree A) → Parts A.AddressKind.num nodes.old i left right l r → Beyond (node_of l i rule r) nodes.old nodes.new }
 {
@@ -82,7 +82,7 @@ fn turn_left<A: AddressKind>(
     left: u16,
     right: u16,
 ) -> u16
-    requires parts { (l r : RuleTree A) × Parts A.AddressKind.num nodes.old i left right l r × (height-of l < 250) × (height-of r < 250) × (0 < height-of r) }
+    requires parts { (l r : RuleTree A) × Parts A.AddressKind.num nodes.old i left right l r × (height_of l < 250) × (height_of r < 250) × (0 < height_of r) }
     ensures made { (l r : RuleTree A) → Parts A.AddressKind.num nodes.old i left right l r → Held A.AddressKind.num nodes.new result (turn_left l i rule r) }
     ensures beyond { (l r : RuleTree A) → Parts A.AddressKind.num nodes.old i left right l r → Beyond (node_of l i rule r) nodes.old nodes.new }
 {
@@ -120,7 +120,7 @@ pub fn balance<A: AddressKind>(
     left: u16,
     right: u16,
 ) -> u16
-    requires parts { (l r : RuleTree A) × Parts A.AddressKind.num nodes.old i left right l r × (height-of l < 250) × (height-of r < 250) }
+    requires parts { (l r : RuleTree A) × Parts A.AddressKind.num nodes.old i left right l r × (height_of l < 250) × (height_of r < 250) }
     ensures made { (l r : RuleTree A) → Parts A.AddressKind.num nodes.old i left right l r → Held A.AddressKind.num nodes.new result (balanced l i rule r) }
     ensures beyond { (l r : RuleTree A) → Parts A.AddressKind.num nodes.old i left right l r → Beyond (node_of l i rule r) nodes.old nodes.new }
 {

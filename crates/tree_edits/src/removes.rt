@@ -1,7 +1,7 @@
 //! A rule leaves a tree.
 
 ghost use Rattle.std.specs.Prelude.{◌<◌, length};
-ghost use Rattle.tree.specs.Tree.{RuleTree, height as height-of, before, Balanced};
+ghost use Rattle.tree.specs.Tree.{RuleTree, height as height_of, before, Balanced};
 ghost use Rattle.tree.specs.Nodes.{Held, Beyond};
 ghost use Rattle.tree_edits.specs.Edits.{without, merge as merged, prune};
 ghost use Rattle.tree_edits.specs.Beside.{LeastAt, Beside, BeyondBoth};
@@ -37,7 +37,7 @@ fn least<A: AddressKind>(nodes: &[Node<A>], k: u16) -> First<A>
 /// Takes the first node out of the tree behind a link, and answers the link to the rest.
 fn without_least<A: AddressKind>(nodes: &mut [Node<A>], k: u16) -> u16
     requires some { 0 < k }
-    requires tree { (t : RuleTree A) × Held A.AddressKind.num nodes.old k t × Balanced t × (height-of t < 240) }
+    requires tree { (t : RuleTree A) × Held A.AddressKind.num nodes.old k t × Balanced t × (height_of t < 240) }
     ensures made { (t : RuleTree A) → Held A.AddressKind.num nodes.old k t → Held A.AddressKind.num nodes.new result (without t) }
     ensures beyond { (t : RuleTree A) → Held A.AddressKind.num nodes.old k t → Beyond t nodes.old nodes.new }
 {
@@ -52,7 +52,7 @@ fn without_least<A: AddressKind>(nodes: &mut [Node<A>], k: u16) -> u16
 
 /// Joins two trees by the first node of the second.
 fn merge<A: AddressKind>(nodes: &mut [Node<A>], left: u16, right: u16) -> u16
-    requires { (l r : RuleTree A) × Beside A.AddressKind.num nodes.old left right l r × Balanced r × (height-of l < 240) × (height-of r < 240) }
+    requires { (l r : RuleTree A) × Beside A.AddressKind.num nodes.old left right l r × Balanced r × (height_of l < 240) × (height_of r < 240) }
     ensures made { (l r : RuleTree A) → Beside A.AddressKind.num nodes.old left right l r → Held A.AddressKind.num nodes.new result (merged l r) }
     ensures beyond { (l r : RuleTree A) → Beside A.AddressKind.num nodes.old left right l r → BeyondBoth l r nodes.old nodes.new }
 {
@@ -66,7 +66,7 @@ fn merge<A: AddressKind>(nodes: &mut [Node<A>], left: u16, right: u16) -> u16
 
 /// Takes out the rule with the range of `sought`, and answers the link to the tree; its node is free then.
 pub fn remove<A: AddressKind>(nodes: &mut [Node<A>], root: u16, sought: Rule<A>) -> u16
-    requires { (t : RuleTree A) × Held A.AddressKind.num nodes.old root t × Balanced t × (height-of t < 240) }
+    requires { (t : RuleTree A) × Held A.AddressKind.num nodes.old root t × Balanced t × (height_of t < 240) }
     ensures made { (t : RuleTree A) → Held A.AddressKind.num nodes.old root t → Held A.AddressKind.num nodes.new result (prune (before A.AddressKind.num) sought t) }
     ensures beyond { (t : RuleTree A) → Held A.AddressKind.num nodes.old root t → Beyond t nodes.old nodes.new }
 {
