@@ -1,4 +1,5 @@
 //! The kinds of address: whole numbers from 0 to the last number of their kind.
+#![tactic(auto)]
 
 mod ipv4;
 mod ipv6;

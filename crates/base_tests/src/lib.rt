@@ -1,4 +1,5 @@
 //! Tests of the address kinds, the refusals, the row stores and lookups, in a crate of their own so that theirs stay quick to prove.
+#![tactic(auto)]
 
 #[cfg(test)]
 mod batches;

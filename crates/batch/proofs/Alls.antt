@@ -1,12 +1,12 @@
 -- The changes of a list one after another.
-use Rattle.std.proofs.Common.{◌≡◌, ℕ, zero, suc, ◌+◌, ◌-◌, ◌<◌, ◌≤◌, Bool, true, false, cond, ◌&&◌, List, [], ◌∷◌, ◌++◌, map, length, get_or, take, drop, set, is_ok, Some, None, Ok, Err, Option, Result, sym, refl, ap, ◌∙◌, arith}
-use Rattle.std.proofs.lemmas.List.{take_more, take_more_set, drop_more, drop_all, drop-set-lt, map-set, set-get_or, get_or-map, get_or-take, length-take-le, length-map, length-set}
+use Rattle.std.proofs.Common.{◌≡◌, ℕ, ◌+◌, ◌<◌, ◌≤◌, cond, List, [], ◌∷◌, ◌++◌, length, get_or, take, drop, set, is_ok, Ok, Err, Option, sym, refl, ap, ◌∙◌, arith}
+use Rattle.std.proofs.lemmas.List.{take_more_set, drop_more, drop_all, drop-set-lt, map-set, set-get_or, get_or-map, get_or-take, length-take-le, length-map}
 use Rattle.rules.specs.declared.refusal.Refusal.{Refusal}
 use Rattle.rules.specs.Rules.{Rule}
 use Rattle.batch.specs.declared.change.Change.{Change}
 use Rattle.batch.specs.declared.staging.Staged.{Staged}
 use Rattle.batch.specs.Changes.{numbered_change, start_of, finish_of, numbered_changes, changes}
-use Rattle.batch.specs.Applied.{change_answer, change_rules, change_left, all_answer, all_rules, all_left, apply_answer, apply_rules, then, undone, unwind}
+use Rattle.batch.specs.Applied.{change_answer, change_rules, change_left, all_answer, all_rules, all_left, then, undone, unwind}
 use Rattle.batch.proofs.Backs.{unwind_push}
 
 module _ {A : Type 0} (num : A → ℕ) (last capacity n : ℕ) (R : List Rule) (xs : List (Staged A)) where

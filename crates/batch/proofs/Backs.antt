@@ -1,11 +1,10 @@
 -- What takes a change back.
-use Rattle.std.proofs.Common.{◌≡◌, ℕ, zero, suc, ◌+◌, ◌-◌, ◌<◌, ◌≤◌, min, Bool, true, false, cond, ◌&&◌, eqb, ltb, leb, ◌⊎◌, List, [], ◌∷◌, ◌++◌, length, get_or, take, drop, is_some, is_ok, Some, None, Ok, Err, Option, Result, sym, refl, ap, ◌∙◌, inl, inr, arith}
+use Rattle.std.proofs.Common.{◌≡◌, ℕ, ◌+◌, ◌-◌, ◌<◌, ◌≤◌, min, Bool, true, false, ltb, List, [], ◌∷◌, ◌++◌, length, get_or, take, is_some, Some, None, Ok, Option, sym, refl, ap, ◌∙◌, inl, inr, arith}
 use Rattle.std.proofs.lemmas.Bool.Decides.{nat_tests}
 use Rattle.std.proofs.lemmas.List.{take_more, take_all}
 use Rattle.std.proofs.lemmas.Bool.{cases_lt}
 use native.Mathlib.Nat.{min-eq_left, min-eq_right}
-use Rattle.rules.specs.declared.refusal.Refusal.{Refusal}
-use Rattle.rules.specs.Rules.{Rule, rule, range, Same, Canonical, same, earlier, insert, delete, hop_of}
+use Rattle.rules.specs.Rules.{Rule, rule, range, Same, Canonical, same, earlier, insert, hop_of}
 use Rattle.rules.specs.Answers.{Sound, put_answer, put_rules}
 use Rattle.rules.proofs.Members.{delete-insert, hop_in, hop-insert, absent_hop}
 use Rattle.rules.proofs.Places.{took}

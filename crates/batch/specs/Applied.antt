@@ -1,5 +1,5 @@
 -- What a list of changes answers and leaves, and what takes it back.
-use Rattle.std.specs.Prelude.{◌≡◌, ℕ, Bool, true, false, cond, List, [], ◌∷◌, length, take, is_some, is_ok, Some, None, Ok, Err, Option, Result, nat_lt}
+use Rattle.std.specs.Prelude.{◌≡◌, ℕ, cond, List, [], ◌∷◌, length, take, is_some, is_ok, Some, None, Ok, Err, Option, Result, nat_lt}
 use Rattle.rules.specs.declared.refusal.Refusal.{Refusal}
 use Rattle.rules.specs.declared.refusal.Refusal.TheVariants.{ShortList, Backwards, DefaultRange, NotHeld}
 use Rattle.rules.specs.Rules.{Rule, rule, insert, delete, hop_of, is_default}

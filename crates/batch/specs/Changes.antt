@@ -1,5 +1,5 @@
 -- Changes by numbers.
-use Rattle.std.specs.Prelude.{ℕ, Bool, true, false, List, map, nat_lt}
+use Rattle.std.specs.Prelude.{ℕ, Bool, false, List, map, nat_lt}
 use Rattle.rules.specs.Rules.{is_default}
 use Rattle.batch.specs.declared.change.Change.{Change}
 use Rattle.batch.specs.declared.change.Change.TheVariants.{Add, Remove}

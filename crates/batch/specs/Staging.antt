@@ -1,5 +1,5 @@
 -- What staging answers and leaves.
-use Rattle.std.specs.Prelude.{ℕ, ◌+◌, Bool, true, false, cond, ◌&&◌, List, length, is_ok, None, Ok, Err, Result, nat_lt, slice_set}
+use Rattle.std.specs.Prelude.{ℕ, ◌+◌, Bool, cond, ◌&&◌, List, length, is_ok, None, Ok, Err, Result, nat_lt, slice_set}
 use Rattle.rules.specs.declared.refusal.Refusal.{Refusal}
 use Rattle.rules.specs.declared.refusal.Refusal.TheVariants.{Backwards, DefaultRange, BatchFull}
 use Rattle.batch.specs.declared.change.Change.{Change}

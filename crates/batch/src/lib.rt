@@ -1,4 +1,5 @@
 //! Batches: changes staged in a list of the caller's, applied to a store all or none, and taken back.
+#![tactic(auto)]
 
 mod applying;
 mod change;

@@ -1,5 +1,5 @@
 -- A batch of one change in a list with other contents behind it.
-use Rattle.std.proofs.Common.{◌≡◌, ℕ, suc, ◌<◌, Bool, true, false, cond, ltb, List, [], ◌∷◌, length, take, is_ok, Ok, Err, Result, sym, refl, ap, ◌∙◌, subst, arith}
+use Rattle.std.proofs.Common.{◌≡◌, ℕ, false, cond, ltb, List, [], ◌∷◌, length, is_ok, Ok, Err, Result, sym, ap, ◌∙◌, arith}
 use Rattle.std.proofs.lemmas.Bool.Decides.{nat_tests}
 use Rattle.rules.specs.declared.refusal.Refusal.{Refusal}
 use Rattle.rules.specs.Rules.{Rule}
@@ -7,7 +7,7 @@ use Rattle.batch.specs.declared.change.Change.{Change}
 use Rattle.batch.specs.declared.staging.Staged.{Staged}
 use Rattle.batch.specs.Changes.{numbered_change, numbered_changes}
 use Rattle.batch.specs.Staging.{stage_answer, stage_count, stage_list, fresh}
-use Rattle.batch.specs.Applied.{then, apply_answer, all_rules}
+use Rattle.batch.specs.Applied.{then}
 use Rattle.table.specs.Answers.{commit_answer, commit_rules}
 use Rattle.batch_client.specs.Clients.{add_one_answer, add_one_rules}
 

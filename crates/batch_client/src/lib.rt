@@ -1,4 +1,5 @@
 //! A client of batches: opens, stages, commits and abandons. Its must-fail edits are misuses that the check refuses.
+#![tactic(auto)]
 
 ghost use Rattle.std.specs.Prelude.{◌≡◌, length};
 ghost use Rattle.batch.specs.declared.change.Change.TheVariants.{Add};

@@ -1,4 +1,5 @@
 //! The byte form of addresses, in which feeds carry them.
+#![tactic(auto)]
 
 mod big_endian;
 mod feed_kind;

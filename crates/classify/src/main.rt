@@ -1,4 +1,5 @@
 //! Reads port numbers from standard input, one a line, and prints the service range and the hop of each.
+#![tactic(auto)]
 
 mod services;
 mod verdict;

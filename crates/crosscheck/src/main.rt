@@ -1,4 +1,5 @@
 //! Compares long lists of pseudo-random calls on a table with a plain table that tries every address.
+#![tactic(auto)]
 
 mod batches;
 mod compare;

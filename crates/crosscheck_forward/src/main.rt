@@ -1,4 +1,5 @@
 //! Compares forward questions and rows of lookups with a plain check, at the edges of the blocks that are not forwarded and beside them.
+#![tactic(auto)]
 
 mod compare;
 mod plain;

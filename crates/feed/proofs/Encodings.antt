@@ -1,5 +1,5 @@
 -- Decoding and encoding undo each other.
-use Rattle.std.proofs.Common.{◌≡◌, ℕ, ◌+◌, ◌^◌, ◌<◌, ◌≤◌, Bool, true, false, cond, ◌&&◌, eqb, ltb, leb, List, [], ◌∷◌, ◌++◌, length, take, drop, Some, None, Ok, Err, sym, refl, ap, ◌∙◌, subst, append_assoc, arith, length-append, take-append-drop, ltb-false, eqb-true, le-leb, leb-true}
+use Rattle.std.proofs.Common.{◌≡◌, ℕ, ◌^◌, ◌<◌, ◌≤◌, Bool, true, false, cond, ◌&&◌, eqb, ltb, leb, List, [], ◌∷◌, ◌++◌, length, take, drop, Some, Ok, Err, sym, refl, ap, ◌∙◌, subst, append_assoc, arith, length-append, take-append-drop, ltb-false, eqb-true, leb-true}
 use Rattle.std.specs.Int.Digits.{number_from_digits, AllBelowBase}
 use Rattle.std.proofs.lemmas.Int.Digits.{number_lt}
 use Rattle.std.proofs.ByRecursion.{All-take, All-drop}
@@ -11,7 +11,7 @@ use Rattle.feed.specs.declared.record.Record.TheVariants.{Change, Lookup, Batch}
 use Rattle.byte_form.specs.Bytes.{bytes_of}
 use Rattle.byte_form.specs.BytesLemmas.{length_bytes, number_bytes, bytes_number}
 use Rattle.feed.specs.Records.{encode, WellFormed}
-use Rattle.feed.specs.Decode.{Part, Read, taking, pair, counted, decode_add, decode_remove, decode_lookup, decode_head, decode_kind, some_read, decode}
+use Rattle.feed.specs.Decode.{Part, Read, taking, pair, counted, decode_add, decode_remove, decode_lookup, decode_head, decode_kind, some_read}
 use Rattle.feed.specs.Laws.{EncodedLaw, DecodedLaw}
 use Rattle.feed.proofs.Parts.{enough, good_count}
 

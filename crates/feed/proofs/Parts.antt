@@ -1,5 +1,5 @@
 -- Taking a number of n bytes from the front of a list.
-use Rattle.std.proofs.Common.{◌≡◌, ℕ, suc, ◌+◌, ◌-◌, ◌*◌, ◌^◌, ◌<◌, ◌≤◌, Bool, true, false, cond, ◌&&◌, ltb, leb, List, [], ◌∷◌, ◌++◌, length, get_or, take, drop, Ok, Err, sym, refl, ap, ◌∙◌, ap₂, zero-add, arith, le-ltb, le-leb}
+use Rattle.std.proofs.Common.{◌≡◌, ℕ, ◌+◌, ◌-◌, ◌*◌, ◌≤◌, Bool, true, false, cond, ltb, leb, List, [], ◌∷◌, length, get_or, take, drop, Ok, Err, sym, ap, ◌∙◌, ap₂, zero-add, arith, le-ltb, le-leb}
 use Rattle.std.proofs.lemmas.List.{take_rest}
 use Rattle.rules.specs.declared.refusal.Refusal.TheVariants.{FeedEnds}
 use Rattle.std.specs.Int.Digits.{number_from_digits}

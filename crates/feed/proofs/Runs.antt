@@ -1,12 +1,12 @@
 -- A run takes its bytes apart, and goes on record by record.
-use Rattle.std.proofs.Common.{◌≡◌, ℕ, zero, suc, ◌+◌, ◌-◌, ◌<◌, ◌≤◌, true, false, List, [], ◌∷◌, ◌++◌, length, drop, is_ok, Some, None, Ok, Err, Result, sym, refl, ap, ◌∙◌, subst, append_assoc, arith}
+use Rattle.std.proofs.Common.{◌≡◌, ℕ, zero, suc, ◌<◌, ◌≤◌, List, [], ◌∷◌, ◌++◌, length, Some, None, Ok, Err, Result, sym, refl, ap, ◌∙◌, subst, append_assoc, arith}
 use Rattle.std.specs.List.{flat_map}
 use Rattle.std.specs.Int.Digits.{AllBelowBase}
 use Rattle.std.proofs.ByRecursion.{All-drop}
 use Rattle.std.proofs.lemmas.List.{nil_from_length}
 use Rattle.rules.specs.declared.refusal.Refusal.{Refusal}
 use Rattle.feed.specs.declared.record.Record.{Record}
-use Rattle.feed.specs.Records.{encode, WellFormed}
+use Rattle.feed.specs.Records.{encode}
 use Rattle.feed.specs.Decode.{Part, Read, decode_kind, some_read, decode}
 use Rattle.feed.specs.Reads.{left, placed}
 use Rattle.feed.specs.Runs.{Run, run, run_for, run_on, stopped, after, Apart}

@@ -1,5 +1,5 @@
 -- What a read leaves is the end of the bytes that it began with.
-use Rattle.std.proofs.Common.{◌≡◌, ℕ, suc, ◌+◌, ◌-◌, ◌<◌, ◌≤◌, Bool, true, false, cond, ◌&&◌, eqb, ltb, leb, List, [], ◌∷◌, length, take, drop, Some, None, Ok, Err, Option, sym, refl, ap, ◌∙◌, subst, arith, length-drop, Bor, ltb-false}
+use Rattle.std.proofs.Common.{◌≡◌, ℕ, suc, ◌+◌, ◌-◌, ◌<◌, ◌≤◌, Bool, true, false, cond, ◌&&◌, eqb, ltb, leb, List, [], ◌∷◌, length, take, drop, Some, Ok, Err, Option, sym, refl, ap, ◌∙◌, arith, length-drop, Bor, ltb-false}
 use Rattle.std.specs.Int.Digits.{number_from_digits}
 use Rattle.std.proofs.lemmas.List.{drop-drop}
 use Rattle.rules.specs.declared.refusal.Refusal.TheVariants.{UnknownRecord, FeedEnds, BadCount}

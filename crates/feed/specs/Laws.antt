@@ -3,7 +3,7 @@ use Rattle.std.specs.Prelude.{◌≡◌, ℕ, List, ◌++◌, Some, Ok}
 use Rattle.std.specs.Int.Digits.{AllBelowBase}
 use Rattle.feed.specs.declared.record.Record.{Record}
 use Rattle.feed.specs.Records.{encode, WellFormed}
-use Rattle.feed.specs.Decode.{Read, decode}
+use Rattle.feed.specs.Decode.{decode}
 use Rattle.feed.specs.Runs.{run, Apart}
 
 -- the bytes of a record, whatever stands behind them, are read as that record, and just what stands behind is left

@@ -1,6 +1,5 @@
 -- Records by numbers, and their bytes.
-use Rattle.std.specs.Prelude.{ℕ, ◌^◌, ◌<◌, ◌≤◌, List, [], ◌∷◌, ◌++◌}
-use Rattle.batch.specs.declared.change.Change.{Change as ChangeOf}
+use Rattle.std.specs.Prelude.{ℕ, ◌^◌, ◌<◌, ◌≤◌, List, ◌∷◌, ◌++◌}
 use Rattle.batch.specs.declared.change.Change.TheVariants.{Add, Remove}
 use Rattle.batch.specs.Changes.{numbered_change}
 use Rattle.feed.specs.declared.record.Record.{Record}

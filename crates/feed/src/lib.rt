@@ -1,4 +1,5 @@
 //! Feeds of records in bytes, the reader over them, and the answer lines.
+#![tactic(auto)]
 
 mod decode;
 mod fault;

@@ -1,4 +1,5 @@
 //! The forward question and rows of lookups, over every table of IPv4 addresses.
+#![tactic(auto)]
 
 mod question;
 mod rows;

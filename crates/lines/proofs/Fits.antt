@@ -6,7 +6,7 @@ use Rattle.rules.specs.declared.refusal.Refusal.{Refusal}
 use Rattle.rules.specs.declared.refusal.Refusal.TheVariants.{ShortList, Backwards, AlreadyMade, DefaultRange, NotHeld, BatchFull, Full, Conflict, Uncovered, Ambiguous, BadPrefix, UnknownRecord, FeedEnds, BadCount, NotAChange, ShortBuffer}
 use Rattle.lines.specs.declared.answer.Answer.{Answer}
 use Rattle.lines.specs.declared.answer.Answer.TheVariants.{Added, Removed, Found, Committed, Fault}
-use Rattle.lines.specs.Lines.{spaced, dotted, refused, updated, found, committed, parts, line, Sized, FitsLaw}
+use Rattle.lines.specs.Lines.{spaced, refused, updated, parts, Sized, FitsLaw}
 use Rattle.lines.proofs.Writes.{length-dotted}
 
 pub number_small : (e : Refusal) → number e ≤ 16

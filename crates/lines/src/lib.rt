@@ -1,4 +1,5 @@
 //! Answer lines: one line of text for each answer, in the caller's line buffer.
+#![tactic(auto)]
 
 mod answer;
 mod line;

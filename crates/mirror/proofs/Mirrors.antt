@@ -1,7 +1,7 @@
 -- What stands in a mirrored set, and what insert and delete do to it.
 use Rattle.std.proofs.Common.{◌≡◌, ℕ, suc, ◌-◌, ◌≤◌, true, false, ◌⊎◌, List, [], ◌∷◌, length, is_some, Some, None, Option, sym, refl, ap, ◌∙◌, subst, inl, inr, arith}
 use Rattle.std.proofs.lemmas.Bool.Decides.{nat_tests}
-use Rattle.rules.specs.Rules.{Rule, rule, range, In, Covers, Same, Absent, Canonical, Bounded, earlier, same, insert, delete, hop_of}
+use Rattle.rules.specs.Rules.{Rule, range, In, Covers, Same, Absent, Canonical, Bounded, earlier, same, insert, delete, hop_of}
 use Rattle.rules.specs.Search.{Best, closer, least_finish, greatest_start}
 use Rattle.rules.proofs.Members.{same_tells, in_same, in_insert_old, in_insert_new, in_insert_keep, in_delete, in_delete_keep, insert-canonical, delete-canonical, canonical_ext, well_formed, hop-insert}
 use Rattle.rules.proofs.Conflicts.{least_finish_is, greatest_start_is}

@@ -1,5 +1,5 @@
 -- The laws of prefixes over the width, which every kind cites.
-use Rattle.std.proofs.Common.{◌≡◌, ℕ, zero, suc, ◌+◌, ◌-◌, ◌*◌, ◌/◌, ◌%◌, ◌^◌, ◌<◌, ◌≤◌, true, eqb, leb, Decides, sym, ap, ◌∙◌, inl, inr, mod-eq_of_lt, add-mul, arith}
+use Rattle.std.proofs.Common.{◌≡◌, ℕ, zero, suc, ◌+◌, ◌-◌, ◌*◌, ◌/◌, ◌%◌, ◌^◌, ◌<◌, ◌≤◌, eqb, leb, Decides, sym, ap, ◌∙◌, inl, inr, mod-eq_of_lt, add-mul, arith}
 use native.Mathlib.Nat.{mod-one, div-eq_of_lt-le}
 use Rattle.std.proofs.lemmas.Nat.{pow-add, pow_pos, shr_below, shr_split, mul-le, mod_below, mod-pow-add}
 use Rattle.std.proofs.lemmas.Bool.{cases_eq, and_from, le-leb, eq-eqb}

@@ -1,4 +1,5 @@
 //! Prefixes of IPv4 and IPv6, the ranges they stand for, and the blocks that are not forwarded.
+#![tactic(auto)]
 
 mod blocks;
 mod four;

@@ -1,8 +1,8 @@
 -- Lists: the next of what is left, and what a rotation of a part leaves.
-use Rattle.std.proofs.Common.{◌≡◌, ℕ, zero, suc, ◌+◌, ◌-◌, ◌<◌, ◌≤◌, List, [], ◌∷◌, ◌++◌, map, length, get_or, take, drop, set, sym, refl, ap, ◌∙◌, subst, append_assoc, add-one, arith, length-append, length-drop, length-take}
+use Rattle.std.proofs.Common.{◌≡◌, ℕ, suc, ◌+◌, ◌-◌, ◌<◌, ◌≤◌, List, [], ◌∷◌, ◌++◌, map, length, get_or, take, drop, set, sym, ap, ◌∙◌, append_assoc, add-one, arith, length-append, length-drop}
 use borrow.Rule.Slice.PartMut.{put_mid}
 use Rattle.std.specs.List.{insert, remove}
-use Rattle.std.proofs.lemmas.List.{drop_more, take-set-le, take-take, drop-set-add, take_more_set, drop_at, take_at, drop-take, length-set, length-take-le, drop-drop, take-append-le}
+use Rattle.std.proofs.lemmas.List.{drop_more, take-set-le, take-take, drop-set-add, take_more_set, drop_at, take_at, drop-take, length-set, length-take-le, drop-drop}
 use Rattle.std.proofs.lemmas.Slice.{take-put_mid}
 
 pub next_left : {X Y : Type 0} (f : X → Y) (xs : List X) (i : ℕ) (x : X) → i < length xs → x ≡ get_or xs i x → map f (drop i xs) ≡ f x ∷ map f (drop (i + 1) xs)

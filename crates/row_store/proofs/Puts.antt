@@ -1,5 +1,5 @@
 -- What a put and a take leave in the row, by the rules that it holds.
-use Rattle.std.proofs.Common.{◌≡◌, ℕ, zero, suc, ◌+◌, ◌-◌, ◌<◌, ◌≤◌, Bool, true, false, cond, ltb, ◌⊎◌, List, [], ◌∷◌, ◌++◌, map, length, get_or, take, drop, set, is_some, is_ok, Ok, Err, Result, sym, refl, ap, ◌∙◌, subst, inl, inr, arith}
+use Rattle.std.proofs.Common.{◌≡◌, ℕ, zero, suc, ◌+◌, ◌-◌, ◌<◌, ◌≤◌, true, false, ltb, List, [], ◌∷◌, map, length, take, drop, set, is_some, Ok, Err, sym, refl, ap, ◌∙◌, inl, inr, arith}
 use native.Mathlib.Nat.{min-le_left, min-le_right}
 use borrow.Author.Tests.{false-ltb}
 use Rattle.std.specs.List.{insert as inserted, remove}

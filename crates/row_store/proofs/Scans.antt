@@ -1,5 +1,5 @@
 -- A scan of a list from the front: the turn that ends it, the turn that goes on, the end.
-use Rattle.std.proofs.Common.{◌≡◌, ℕ, zero, suc, ◌+◌, ◌-◌, ◌<◌, ◌≤◌, Bool, true, false, cond, List, [], ◌∷◌, ◌++◌, map, length, get_or, take, drop, Some, None, Option, sym, refl, ap, ◌∙◌, subst, arith}
+use Rattle.std.proofs.Common.{◌≡◌, ℕ, suc, ◌+◌, ◌-◌, ◌<◌, ◌≤◌, Bool, true, false, cond, List, [], ◌∷◌, map, length, get_or, take, drop, Some, None, Option, sym, refl, ◌∙◌, arith}
 use Rattle.std.proofs.lemmas.List.{drop_all, take_all, map_more}
 use Rattle.rules.specs.Rules.{Rule, range, hop_of, same, earlier, covers, ordered}
 use Rattle.rules.specs.Search.{best, better, closer, least_finish, greatest_start}

@@ -1,4 +1,5 @@
 //! Row stores: rules in one row of the caller's memory, a store for each kind of address.
+#![tactic(auto)]
 
 mod edits;
 mod ipv4_row;

@@ -1,12 +1,12 @@
 -- The next boundary, and the walk over boundaries that decides the test at every address.
-use Rattle.std.proofs.Common.{◌≡◌, ℕ, zero, suc, ◌+◌, ◌-◌, ◌<◌, ◌≤◌, min, Bool, true, false, cond, not, ◌&&◌, ◌||◌, eqb, ltb, leb, ◌⊎◌, List, [], ◌∷◌, Some, None, Decides, Option, sym, refl, ap, ◌∙◌, subst, ap₂, inl, inr, arith}
+use Rattle.std.proofs.Common.{◌≡◌, ℕ, zero, suc, ◌+◌, ◌-◌, ◌<◌, ◌≤◌, Bool, true, false, ◌&&◌, ltb, ◌⊎◌, List, [], ◌∷◌, Some, None, Decides, Option, sym, refl, ◌∙◌, inl, inr, arith}
 use borrow.Author.Tests.{true-ltb, false-ltb}
-use Rattle.std.proofs.lemmas.Bool.Decides.{nat_tests, leb_tells, eqb_tells, Decides-and, Decides-like, same_from_decides}
-use Rattle.std.proofs.lemmas.Bool.{cases_Bool, and_parts, cases_eq, cases_lt, and_from}
-use Rattle.rules.specs.Rules.{Rule, In, Covers, covers, earlier}
-use Rattle.rules.specs.Search.{best, closer, same_found}
+use Rattle.std.proofs.lemmas.Bool.Decides.{nat_tests, Decides-and, Decides-like, same_from_decides}
+use Rattle.std.proofs.lemmas.Bool.{and_parts, cases_lt, and_from}
+use Rattle.rules.specs.Rules.{Rule, In, covers, earlier}
+use Rattle.rules.specs.Search.{best, closer}
 use Rattle.rules.specs.Conflicts.{resolved_at, resolved_in, resolved_from, ResolvedAt, ResolvedIn}
-use Rattle.rules.specs.Boundaries.{nearer, nearest, next_boundary, walk, Boundary, LeastBoundary}
+use Rattle.rules.specs.Boundaries.{nearest, next_boundary, walk, Boundary, LeastBoundary}
 use Rattle.rules.proofs.Conflicts.{resolved_at_decides, resolved_in_decides}
 use Rattle.rules.proofs.Search.{none≢some}
 

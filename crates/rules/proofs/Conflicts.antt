@@ -1,10 +1,10 @@
 -- Most specific rules, resolved addresses and conflict-free sets.
-use Rattle.std.proofs.Common.{◌≡◌, ℕ, zero, suc, ◌+◌, ◌-◌, ◌<◌, ◌≤◌, Bool, true, false, cond, not, ◌&&◌, ◌||◌, eqb, ltb, leb, ◌⊎◌, List, [], ◌∷◌, Some, None, Decides, Option, sym, refl, ap, ◌∙◌, subst, inl, inr, arith}
+use Rattle.std.proofs.Common.{◌≡◌, ℕ, zero, suc, ◌+◌, ◌-◌, ◌<◌, ◌≤◌, Bool, true, false, ◌&&◌, ◌⊎◌, List, Some, None, Decides, Option, refl, subst, inl, inr, arith}
 use Rattle.std.proofs.lemmas.Bool.Decides.{nat_tests, Decides-and, Decides-like}
-use Rattle.std.proofs.lemmas.Bool.{cases_eq, cases_lt}
+use Rattle.std.proofs.lemmas.Bool.{cases_eq}
 use Rattle.rules.specs.Rules.{Rule, range, In, Covers, Inside, Same, Absent, Canonical, Bounded, earlier, same, covers, insert, delete}
-use Rattle.rules.specs.Search.{Best, best, closer, least_finish, greatest_start, Least, same_found, agree}
-use Rattle.rules.specs.Conflicts.{Cross, Filled, MostSpecific, Covered, ResolvedAt, ResolvedIn, ConflictFree, AllFilled, Conflicting, most_specific, resolved_at, resolved_from, resolved_in}
+use Rattle.rules.specs.Search.{Best, closer, least_finish, greatest_start, same_found, agree}
+use Rattle.rules.specs.Conflicts.{Cross, Filled, MostSpecific, ResolvedAt, ResolvedIn, ConflictFree, AllFilled, Conflicting, most_specific, resolved_at, resolved_from, resolved_in}
 use Rattle.rules.proofs.Members.{covers_tells, same_tells, in_same, in_insert_old, in_insert_new, in_insert_keep, in_delete, in_delete_keep}
 use Rattle.rules.proofs.Search.{best_is, earlier_ranks, closer_ranks, same_found-decides, agree-least, least-agree, no_inner, none≢some}
 

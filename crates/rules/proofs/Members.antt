@@ -1,8 +1,7 @@
 -- Membership, order, and what insert, delete and hop-of do to a set.
-use Rattle.std.proofs.Common.{◌≡◌, ℕ, zero, suc, ◌+◌, ◌-◌, ◌<◌, ◌≤◌, Bool, true, false, cond, not, ◌&&◌, ◌||◌, eqb, ltb, leb, ◌⊎◌, List, [], ◌∷◌, ◌++◌, is_some, Some, None, Option, sym, refl, ap, ◌∙◌, subst, ap₂, inl, inr, arith}
-use Rattle.std.proofs.lemmas.Bool.Decides.{nat_tests, leb_tells, eqb_tells}
-use Rattle.std.proofs.lemmas.Bool.{cases_Bool, and_parts}
-use Rattle.rules.specs.Rules.{Rule, range, In, Covers, Inside, Same, Absent, Earlier, Canonical, earlier, same, covers, insert, delete, hop_of}
+use Rattle.std.proofs.Common.{◌≡◌, ℕ, ◌≤◌, Bool, true, false, cond, ◌⊎◌, List, [], ◌∷◌, ◌++◌, is_some, Some, None, sym, refl, ap₂, inl, inr, arith}
+use Rattle.std.proofs.lemmas.Bool.Decides.{nat_tests}
+use Rattle.rules.specs.Rules.{Rule, range, In, Covers, Same, Absent, Earlier, Canonical, earlier, same, covers, insert, delete, hop_of}
 
 pub same_tells : (r s : Rule) → ((same r s ≡ true) × Same r s) ⊎ ((same r s ≡ false) × (Same r s → ⊥))
 same_tells r s = grind (arith, nat_tests)

@@ -1,13 +1,13 @@
 -- Where a rule stands in the order, and what putting and striking do at its place.
-use Rattle.std.proofs.Common.{◌≡◌, ℕ, zero, suc, ◌+◌, ◌-◌, ◌<◌, ◌≤◌, Bool, true, false, cond, not, ◌&&◌, ◌||◌, eqb, ltb, leb, ◌⊎◌, List, [], ◌∷◌, ◌++◌, length, get_or, take, drop, set, is_some, is_ok, Some, None, Ok, Err, Decides, Option, Result, sym, refl, ap, ◌∙◌, inl, inr, arith}
+use Rattle.std.proofs.Common.{◌≡◌, ℕ, ◌+◌, ◌<◌, ◌≤◌, Bool, true, false, cond, ◌&&◌, ltb, leb, List, [], ◌∷◌, length, set, is_some, Some, None, Decides, Option, sym, refl, ap, inl, inr, arith}
 use Rattle.std.specs.List.{insert as inserted, remove}
-use Rattle.std.proofs.lemmas.Bool.Decides.{nat_tests, Decides-and, Decides-like}
-use Rattle.std.proofs.lemmas.Bool.{cases_Bool, and_parts, and_from}
-use Rattle.rules.specs.Rules.{Rule, rule, range, In, Same, Absent, Earlier, Canonical, Covers, earlier, same, covers, insert, delete, hop_of, every, ordered}
-use Rattle.rules.specs.Search.{best, better, least_finish, closer}
-use Rattle.rules.specs.Answers.{place_of, put_answer, put_rules, take_answer, take_rules}
+use Rattle.std.proofs.lemmas.Bool.Decides.{nat_tests}
+use Rattle.std.proofs.lemmas.Bool.{and_parts, and_from}
+use Rattle.rules.specs.Rules.{Rule, rule, range, In, Same, Absent, Earlier, Canonical, earlier, same, insert, delete, hop_of, every, ordered}
+use Rattle.rules.specs.Search.{best, better}
+use Rattle.rules.specs.Answers.{place_of, put_rules, take_rules}
 use Rattle.std.proofs.lemmas.List.Edits.{length-remove}
-use Rattle.rules.proofs.Members.{same_tells, earlier_tells, hop_in, hop-delete, delete_absent, insert_split}
+use Rattle.rules.proofs.Members.{earlier_tells, hop_in, hop-delete, delete_absent, insert_split}
 
 every-earlier : (x : Rule) (xs : List Rule) → Decides (every (earlier x) xs) ((y : Rule) → In y xs → Earlier x y)
 unfolding every

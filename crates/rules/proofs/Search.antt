@@ -1,9 +1,8 @@
 -- Searches by an order, and where the search by finish and the search by start agree.
-use Rattle.std.proofs.Common.{◌≡◌, ℕ, zero, suc, ◌+◌, ◌-◌, ◌<◌, ◌≤◌, Bool, true, false, cond, not, ◌&&◌, ◌||◌, eqb, ltb, leb, ◌⊎◌, List, [], ◌∷◌, ◌++◌, Some, None, Decides, Option, sym, refl, ap, ◌∙◌, subst, inl, inr, arith}
-use Rattle.std.proofs.lemmas.Bool.Decides.{nat_tests, leb_tells, eqb_tells, Decides-and, Decides-like, not_from_Decides}
-use Rattle.std.proofs.lemmas.Bool.{cases_Bool, and_parts, cases_eq}
-use Rattle.rules.specs.Rules.{Rule, range, In, Covers, Inside, Same, Absent, Earlier, Canonical, earlier, same, covers}
-use Rattle.rules.specs.Search.{Best, best, better, closer, least_finish, greatest_start, Least, same_found, agree}
+use Rattle.std.proofs.Common.{◌≡◌, ℕ, Bool, true, false, cond, ◌⊎◌, List, [], ◌∷◌, ◌++◌, Some, None, Decides, Option, refl, subst, inl, inr, arith}
+use Rattle.std.proofs.lemmas.Bool.Decides.{nat_tests, not_from_Decides}
+use Rattle.rules.specs.Rules.{Rule, In, Inside, Same, Canonical, earlier, same}
+use Rattle.rules.specs.Search.{Best, best, better, closer, Least, same_found, agree}
 use Rattle.rules.proofs.Members.{same_tells, in_same}
 
 -- an order that a search may go by

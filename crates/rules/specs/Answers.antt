@@ -1,5 +1,5 @@
 -- What each call of a store answers and leaves.
-use Rattle.std.specs.Prelude.{ℕ, suc, ◌≤◌, Bool, true, false, cond, List, [], ◌∷◌, length, is_some, is_ok, Some, None, Ok, Err, Option, Result, nat_lt}
+use Rattle.std.specs.Prelude.{ℕ, suc, ◌≤◌, cond, List, [], ◌∷◌, length, is_some, is_ok, Some, None, Ok, Err, Option, Result, nat_lt}
 use Rattle.rules.specs.declared.refusal.Refusal.{Refusal}
 use Rattle.rules.specs.declared.refusal.Refusal.TheVariants.{Backwards, NotHeld, Full}
 use Rattle.rules.specs.declared.rule.Rule.{Rule as Stored}

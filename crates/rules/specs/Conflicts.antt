@@ -1,5 +1,5 @@
 -- Most specific rules, and sets in which every covered address has one.
-use Rattle.std.specs.Prelude.{ℕ, zero, suc, ◌-◌, ◌≤◌, Bool, true, ◌&&◌, List, [], ◌∷◌, Option}
+use Rattle.std.specs.Prelude.{ℕ, zero, suc, ◌-◌, ◌≤◌, Bool, true, ◌&&◌, List, Option}
 use Rattle.rules.specs.Rules.{Rule, In, Inside, Covers}
 use Rattle.rules.specs.Search.{least_finish, greatest_start, Least, same_found, agree}
 

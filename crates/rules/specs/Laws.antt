@@ -1,5 +1,5 @@
 -- What the executable definitions mean, as statements that functions of this crate promise.
-use Rattle.std.specs.Prelude.{◌≡◌, ℕ, ◌+◌, ◌<◌, ◌≤◌, false, List, Some, Decides, Option}
+use Rattle.std.specs.Prelude.{◌≡◌, ℕ, ◌+◌, ◌<◌, ◌≤◌, false, List, Some, Decides}
 use Rattle.rules.specs.Rules.{Rule, In, Inside, Same, Absent, Covers, Canonical, Bounded, earlier, ordered, insert, delete}
 use Rattle.rules.specs.Search.{Best, closer, least_finish, greatest_start}
 use Rattle.rules.specs.Conflicts.{MostSpecific, ResolvedAt, ResolvedIn, ConflictFree, AllFilled, Conflicting, most_specific, resolved_at, resolved_in}

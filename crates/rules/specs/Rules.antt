@@ -1,6 +1,6 @@
 -- Rules by numbers, and sets of rules as lists in one order.
 -- Each notion has a relation, with a capital, and a test that computes, without one; the laws between them are in Laws.
-use Rattle.std.specs.Prelude.{◌≡◌, ℕ, ◌<◌, ◌≤◌, Bool, true, false, cond, ◌&&◌, ◌||◌, ◌⊎◌, List, [], ◌∷◌, Some, None, Option, ◌==◌, nat_le, nat_lt}
+use Rattle.std.specs.Prelude.{◌≡◌, ℕ, ◌<◌, ◌≤◌, Bool, true, cond, ◌&&◌, ◌||◌, ◌⊎◌, List, [], ◌∷◌, Some, None, Option, ◌==◌, nat_le, nat_lt}
 
 -- A rule sends the addresses from start to finish to its hop.
 pub record Rule : Type 0 where

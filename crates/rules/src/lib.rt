@@ -1,4 +1,5 @@
 //! The vocabulary of range sets: rules, refusals, what a store of rules is, and the laws of its definitions.
+#![tactic(auto)]
 
 mod laws;
 mod refusal;

@@ -1,4 +1,5 @@
 //! Cases for the stores: what a tree store answers beside a row store that took the same calls.
+#![tactic(auto)]
 
 use address::{Mirror, Port};
 use row_store::PortRow;

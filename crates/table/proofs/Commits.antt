@@ -1,5 +1,5 @@
 -- What a commit answers and leaves, way by way.
-use Rattle.std.proofs.Common.{◌≡◌, ℕ, Bool, true, false, cond, ltb, List, length, take, is_ok, Ok, Err, Result, sym, refl, ap, ◌∙◌, subst, arith}
+use Rattle.std.proofs.Common.{◌≡◌, ℕ, Bool, true, false, cond, ltb, List, length, take, is_ok, Ok, Err, Result, sym, ap, ◌∙◌, arith}
 use Rattle.rules.specs.declared.refusal.Refusal.{Refusal}
 use Rattle.rules.specs.declared.refusal.Refusal.TheVariants.{ShortList, Conflict}
 use Rattle.rules.specs.Rules.{Rule}

@@ -1,11 +1,10 @@
 -- The answer of a lookup is right.
-use Rattle.std.proofs.Common.{◌≡◌, ℕ, Bool, true, false, cond, ◌⊎◌, List, Some, None, Ok, Err, Option, Result, sym, refl, ◌∙◌, subst, inl, inr, arith}
-use Rattle.std.proofs.lemmas.Bool.Decides.{nat_tests}
+use Rattle.std.proofs.Common.{◌≡◌, ℕ, Bool, true, false, List, Some, None, Ok, Err, Option, Result, sym, refl, inl, inr, arith}
 use Rattle.rules.specs.declared.refusal.Refusal.{Refusal}
 use Rattle.rules.specs.declared.refusal.Refusal.TheVariants.{Uncovered, Ambiguous}
 use Rattle.rules.specs.Rules.{Rule, Covers, earlier, same}
 use Rattle.rules.specs.Search.{Best, least_finish, greatest_start, same_found, agree}
-use Rattle.rules.specs.Conflicts.{resolved_at, MostSpecific}
+use Rattle.rules.specs.Conflicts.{MostSpecific}
 use Rattle.rules.proofs.Conflicts.{least_finish_is, resolved_at_decides, most_specific_sound}
 use Rattle.table.specs.Answers.{told_by, lookup_answer, Right}
 

@@ -1,8 +1,8 @@
 -- A put of the default range into an empty store.
-use Rattle.std.proofs.Common.{◌≡◌, ℕ, ◌≤◌, Bool, true, false, cond, ltb, List, [], ◌∷◌, length, is_ok, Ok, Err, Result, sym, refl, ◌∙◌, subst, arith}
+use Rattle.std.proofs.Common.{◌≡◌, ℕ, ◌≤◌, false, ltb, List, [], ◌∷◌, length, Result, ◌∙◌, arith}
 use Rattle.std.proofs.lemmas.Bool.Decides.{nat_tests}
 use Rattle.rules.specs.declared.refusal.Refusal.{Refusal}
-use Rattle.rules.specs.Rules.{Rule, rule, insert, hop_of}
+use Rattle.rules.specs.Rules.{Rule, insert, hop_of}
 use Rattle.rules.specs.Answers.{put_answer, put_rules}
 use Rattle.table.specs.Answers.{make_answer, make_rules}
 

@@ -1,11 +1,10 @@
 -- An addition or a removal that is undone leaves the set as it was.
-use Rattle.std.proofs.Common.{◌≡◌, ℕ, Bool, true, false, cond, eqb, ltb, List, length, is_some, is_ok, Some, None, Ok, Err, Option, Result, sym, refl, ap, ◌∙◌, arith}
+use Rattle.std.proofs.Common.{◌≡◌, ℕ, true, false, ltb, List, is_some, Some, Ok, Err, sym, ◌∙◌, arith}
 use Rattle.std.proofs.lemmas.Bool.Decides.{nat_tests}
-use Rattle.rules.specs.declared.refusal.Refusal.{Refusal}
 use Rattle.rules.specs.declared.refusal.Refusal.TheVariants.{Conflict}
 use Rattle.rules.specs.Rules.{Rule, rule, range, same, insert, delete, hop_of, is_default}
 use Rattle.rules.specs.Conflicts.{resolved_in}
-use Rattle.rules.specs.Answers.{Sound, put_answer, put_rules, take_answer, take_rules}
+use Rattle.rules.specs.Answers.{Sound, put_answer, put_rules, take_rules}
 use Rattle.rules.proofs.Places.{put_back, took}
 use Rattle.rules.proofs.Members.{delete-insert, absent_hop, hop-insert}
 use Rattle.table.specs.Answers.{add_answer, add_rules, remove_answer, remove_rules}

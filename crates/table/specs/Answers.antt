@@ -1,5 +1,5 @@
 -- What each call of a table answers and leaves.
-use Rattle.std.specs.Prelude.{◌≡◌, ℕ, Bool, true, false, cond, ◌⊎◌, List, [], ◌∷◌, length, take, is_some, is_ok, Some, None, Ok, Err, Option, Result, nat_lt}
+use Rattle.std.specs.Prelude.{◌≡◌, ℕ, cond, ◌⊎◌, List, [], ◌∷◌, length, take, is_some, is_ok, Some, None, Ok, Err, Option, Result, nat_lt}
 use Rattle.rules.specs.declared.refusal.Refusal.{Refusal}
 use Rattle.rules.specs.declared.refusal.Refusal.TheVariants.{Backwards, AlreadyMade, DefaultRange, NotHeld, Full, Conflict, Uncovered, Ambiguous}
 use Rattle.batch.specs.declared.change.Change.{Change}

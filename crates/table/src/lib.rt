@@ -1,4 +1,5 @@
 //! The table: what can be asked of any store and changed in it, proved once for every store.
+#![tactic(auto)]
 
 mod calls;
 mod cases;

@@ -1,4 +1,5 @@
 //! A balanced tree of rules over a row of nodes: reading a node, making one, and turning where one side is too high.
+#![tactic(auto)]
 
 mod joins;
 mod node;

@@ -1,4 +1,5 @@
 //! Edits of a tree of rules in a row of nodes: a rule enters, a rule leaves, a rule gets another hop.
+#![tactic(auto)]
 
 mod hops;
 mod inserts;

@@ -1,4 +1,5 @@
 //! The engine of the tree stores: one balanced tree of rules with its free nodes.
+#![tactic(auto)]
 
 mod engine;
 mod spare;

@@ -1,4 +1,5 @@
 //! Searches in a tree of rules, each a descent by a loop.
+#![tactic(auto)]
 
 mod cover;
 mod ends;

@@ -1,4 +1,5 @@
 //! Tree stores: rules as two balanced trees in the caller's memory, a store for each kind of address.
+#![tactic(auto)]
 
 mod ipv4_tree;
 mod ipv6_tree;

@@ -1,4 +1,4 @@
-use Rattle.std.proofs.Common.{◌≡◌, length}
+use Rattle.std.proofs.Common.{length}
 use Rattle.batch.specs.declared.change.Change.TheVariants.{Add}
 use Rattle.batch_client.proofs.Ones.{refused, committed}
 use Rattle.batch_client.proofs.add_by_batch.Goals as goal

@@ -1,4 +1,3 @@
-use Rattle.std.proofs.Common.{◌≡◌, sym, ◌∙◌, rules}
 use Rattle.batch.proofs.Backs.{added_back}
 use Rattle.batch.proofs.applying.apply_add.Goals as goal
 

@@ -1,6 +1,6 @@
-use Rattle.std.proofs.Common.{◌≡◌, ℕ, ◌<◌, ◌≤◌, length, get_or, sym, ◌∙◌, arith, rules}
+use Rattle.std.proofs.Common.{◌≡◌, ℕ, get_or, ◌∙◌, arith}
 use Rattle.std.proofs.lemmas.List.{get_or_default}
-use Rattle.batch.proofs.Alls.{Going, going_start, going_on, going-err, going_end, undone_all, left_err}
+use Rattle.batch.proofs.Alls.{going_start, going_on, going-err, going_end, undone_all, left_err}
 use Rattle.batch.proofs.applying.apply_all.Goals as goal
 
 pub loop-i-init : goal.loop-i-init

@@ -1,4 +1,4 @@
-use Rattle.std.proofs.Common.{◌≡◌, ◌≤◌, length, sym, refl, ap, ◌∙◌, arith, rules}
+use Rattle.std.proofs.Common.{refl, ap, ◌∙◌, arith}
 use Rattle.batch.specs.Applied.{unwind}
 use Rattle.batch.proofs.Backs.{unwind_on, unwind_none, take_within}
 use Rattle.batch.proofs.undoing.undo.Goals as goal

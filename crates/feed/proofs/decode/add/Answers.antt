@@ -1,4 +1,4 @@
-use Rattle.std.proofs.Common.{◌≡◌, sym, ap, ◌∙◌, ap₂, rules}
+use Rattle.std.proofs.Common.{◌∙◌, ap₂, rules}
 use Rattle.std.proofs.lemmas.List.{take_rest}
 use Rattle.batch.specs.declared.change.Change.TheVariants.{Add}
 use Rattle.feed.specs.declared.record.Record.TheVariants.{Change}

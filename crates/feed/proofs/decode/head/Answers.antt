@@ -1,4 +1,4 @@
-use Rattle.std.proofs.Common.{◌≡◌, get_or, drop, ap, ◌∙◌, rules}
+use Rattle.std.proofs.Common.{get_or, drop, ap, ◌∙◌, rules}
 use Rattle.std.proofs.lemmas.List.{take_rest}
 use Rattle.feed.specs.declared.record.Record.TheVariants.{Batch}
 use Rattle.feed.specs.Decode.{pair, counted}

@@ -1,4 +1,4 @@
-use Rattle.std.proofs.Common.{◌≡◌, rules}
+use Rattle.std.proofs.Common.{rules}
 use Rattle.feed.proofs.Parts.{of_kind}
 use Rattle.feed.proofs.decode.record.Goals as goal
 

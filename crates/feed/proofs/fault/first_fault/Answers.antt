@@ -1,7 +1,7 @@
 use Rattle.std.proofs.Common.{◌≡◌, ℕ, ◌-◌, ◌<◌, List, length, drop, Some, ap, ◌∙◌, ap₂, arith, length-drop, Bor}
 use Rattle.std.proofs.ByRecursion.{All-from_get_or}
 use Rattle.feed.specs.Readers.{unread}
-use Rattle.feed.specs.Runs.{run, fault, fault_at}
+use Rattle.feed.specs.Runs.{run, fault_at}
 use Rattle.feed.proofs.Runs.{apart}
 use Rattle.feed.proofs.fault.first_fault.Goals as goal
 

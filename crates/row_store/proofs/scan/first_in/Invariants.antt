@@ -1,5 +1,5 @@
 use Rattle.std.proofs.Common.{◌≡◌, map, drop}
-use Rattle.rules.specs.Rules.{hop_of, covers}
+use Rattle.rules.specs.Rules.{covers}
 use Rattle.rules.proofs.Places.{first}
 use Rattle.rules.specs.Answers.{numbered}
 use Rattle.row_store.proofs.scan.first_in.Given as goal

@@ -1,6 +1,5 @@
 use Rattle.std.proofs.Common.{◌≡◌, map, drop}
-use Rattle.rules.specs.Rules.{hop_of, covers}
-use Rattle.rules.proofs.Places.{first}
+use Rattle.rules.specs.Rules.{hop_of}
 use Rattle.rules.specs.Answers.{numbered}
 use Rattle.row_store.proofs.scan.hop_in.Given as goal
 

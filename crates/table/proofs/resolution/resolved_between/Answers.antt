@@ -1,4 +1,4 @@
-use Rattle.std.proofs.Common.{arith, rules}
+use Rattle.std.proofs.Common.{arith}
 use Rattle.rules.proofs.Boundaries.{walk_past, walk_clash, walk_done, walk_on, walk_moves}
 use Rattle.table.proofs.resolution.resolved_between.Goals as goal
 

@@ -1,7 +1,6 @@
 use Rattle.std.proofs.Common.{◌+◌, Some, refl, ap, ◌∙◌}
 use Rattle.feed.specs.Reads.{placed, left, taken, as_change}
 use Rattle.feed.specs.Readers.{unread}
-use Rattle.feed.specs.declared.record.Record.TheVariants.{Change}
 use Rattle.feed.proofs.Tails.{found, moved_by}
 use Rattle.feed.proofs.reader.Reader.next_change.Goals as goal
 

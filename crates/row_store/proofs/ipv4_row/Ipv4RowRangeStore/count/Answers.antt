@@ -1,4 +1,3 @@
-use Rattle.std.proofs.Common.{sym}
 use Rattle.address.specs.Numbers.{ipv4_num}
 use Rattle.row_store.proofs.Puts.{count_is}
 use Rattle.row_store.proofs.ipv4_row.Ipv4RowRangeStore.count.Goals as goal

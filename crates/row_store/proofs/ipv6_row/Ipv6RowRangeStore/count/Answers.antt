@@ -1,4 +1,3 @@
-use Rattle.std.proofs.Common.{sym}
 use Rattle.address.specs.Numbers.{ipv6_num}
 use Rattle.row_store.proofs.Puts.{count_is}
 use Rattle.row_store.proofs.ipv6_row.Ipv6RowRangeStore.count.Goals as goal

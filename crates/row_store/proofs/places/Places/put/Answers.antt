@@ -1,5 +1,5 @@
 -- A put replaces at the range's place, or shifts the places behind it up by one.
-use Rattle.std.proofs.Common.{◌≡◌, ℕ, ◌<◌, ◌≤◌, true, false, length, is_some, refl, arith, rules}
+use Rattle.std.proofs.Common.{◌≡◌, ◌<◌, true, false, length, is_some, refl, arith, rules}
 use Rattle.rules.specs.declared.refusal.Refusal.TheVariants.{Full}
 use Rattle.rules.specs.Rules.{hop_of}
 use Rattle.row_store.specs.Held.{rules_of, capacity_of}

@@ -1,7 +1,7 @@
 -- A take shifts the places behind the range down by one.
-use Rattle.std.proofs.Common.{◌≡◌, ℕ, ◌<◌, ◌≤◌, true, length, is_some, arith, rules}
+use Rattle.std.proofs.Common.{◌≡◌, true, length, is_some, arith, rules}
 use Rattle.rules.specs.Rules.{hop_of}
-use Rattle.row_store.specs.Held.{rules_of, capacity_of}
+use Rattle.row_store.specs.Held.{rules_of}
 use Rattle.row_store.proofs.Puts.{fits, held_place, held-deleted, delete-ordered, taken_answer, take_done}
 use Rattle.row_store.proofs.places.Places.take.Goals as goal
 

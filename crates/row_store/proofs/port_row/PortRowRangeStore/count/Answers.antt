@@ -1,4 +1,3 @@
-use Rattle.std.proofs.Common.{sym}
 use Rattle.address.specs.Numbers.{port_num}
 use Rattle.row_store.proofs.Puts.{count_is}
 use Rattle.row_store.proofs.port_row.PortRowRangeStore.count.Goals as goal

@@ -1,4 +1,4 @@
-use Rattle.std.proofs.Common.{◌≡◌, ◌∙◌}
+use Rattle.std.proofs.Common.{◌∙◌}
 use Rattle.table.proofs.Updates.{removed, restored}
 use Rattle.table.proofs.calls.Table.remove.Goals as goal
 
