@@ -1,10 +1,9 @@
-# make run: build the main program and run it on its sample input. make test: the gate.
+# make run: prove and build the main program and run it on its sample input. make test: the gate.
 
 .PHONY: run test
 
 run:
-	rt check classify
-	target/bin/classify < crates/classify/stdin
+	cd crates/classify && rt run < stdin
 
 test:
 	.ci/run

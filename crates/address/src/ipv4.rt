@@ -3,7 +3,6 @@
 ghost use Rattle.std.specs.Prelude.{◌≡◌, ◌≤◌};
 ghost use mathlib.Core.HLevel.{is_prop→PathP};
 ghost use Rattle.std.proofs.Math.Bridge.{le_prop};
-ghost use Rattle.std.proofs.Common.{rules, arith};
 
 use crate::kind::AddressKind;
 
@@ -33,7 +32,7 @@ impl AddressKind for Ipv4 {
 
     ghost last = { 4294967295 };
 
-    ghost bounded = { first_of (Prim.search rules, Prim.grind (arith, Self.row.coded.inj)) };
+    ghost bounded = { λ x. x.ok };
 
     ghost injective = { λ x y e i. record { value = e i; ok = is_prop→PathP (λ j. e j ≤ 4294967295) (λ j. le_prop) x.ok y.ok i } };
 

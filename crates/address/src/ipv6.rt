@@ -3,7 +3,7 @@
 ghost use Rattle.std.specs.Prelude.{◌≡◌, ◌+◌, ◌-◌, ◌*◌, ◌^◌, ◌<◌};
 ghost use mathlib.Core.HLevel.{is_prop→PathP};
 ghost use Rattle.std.proofs.Math.Bridge.{le_prop};
-ghost use Rattle.std.proofs.Common.{arith, rules};
+ghost use Rattle.std.proofs.Common.{arith};
 
 use crate::kind::AddressKind;
 
@@ -42,11 +42,11 @@ impl AddressKind for Ipv6 {
 
     ghost last = { 2 ^ 128 - 1 };
 
-    ghost bounded = { first_of (Prim.search rules, Prim.grind (arith, Self.row.coded.inj)) };
+    ghost bounded = { λ x. Prim.omega (arith, x.high_ok, x.low_ok) };
 
     ghost injective = { λ x y e.
-        let h : x.high ≡ y.high = omega arith in
-        let l : x.low ≡ y.low = omega arith in
+        let h : x.high ≡ y.high = Prim.omega arith in
+        let l : x.low ≡ y.low = Prim.omega arith in
         λ i. record {
           high = h i;
           low = l i;

@@ -42,7 +42,7 @@ impl FeedKind for Port {
 
     ghost short = { Prim.search rules };
 
-    ghost back = { λ x. read_back _ x.value (omega (arith, x.ok)) };
+    ghost back = { λ x. read_back _ x.value (Prim.omega (arith, x.ok)) };
 
     fn width() -> usize {
         2
@@ -71,7 +71,7 @@ impl FeedKind for Ipv4 {
 
     ghost short = { Prim.search rules };
 
-    ghost back = { λ x. read_back _ x.value (omega (arith, x.ok)) };
+    ghost back = { λ x. read_back _ x.value (Prim.omega (arith, x.ok)) };
 
     fn width() -> usize {
         4
@@ -100,7 +100,7 @@ impl FeedKind for Ipv6 {
 
     ghost short = { Prim.search rules };
 
-    ghost back = { λ x. read_back 16 (x.high * 2 ^ 64 + x.low) (omega (arith, x.high_ok, x.low_ok)) };
+    ghost back = { λ x. read_back 16 (x.high * 2 ^ 64 + x.low) (Prim.omega (arith, x.high_ok, x.low_ok)) };
 
     fn width() -> usize {
         16

@@ -53,7 +53,7 @@ unfolding next_boundary
 boundary_within last [] d = tt
 boundary_within last (x ∷ xs) d = nearest-within last d x.start (nearest last d (suc x.finish) (next_boundary last xs d)) (nearest-within last d (suc x.finish) (next_boundary last xs d) (boundary_within last xs d))
 
--- next-boundary passes over no boundary
+-- next_boundary passes over no boundary
 pub boundary_clears : (last : ℕ) (R : List Rule) (d : ℕ) (r : Rule) → In r R → Clears d (upto last (next_boundary last R d)) r.start × Clears d (upto last (next_boundary last R d)) (suc r.finish)
 unfolding next_boundary
 boundary_clears last [] d r h = elim h [ ]

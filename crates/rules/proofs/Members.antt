@@ -1,4 +1,4 @@
--- Membership, order, and what insert, delete and hop-of do to a set.
+-- Membership, order, and what insert, delete and hop_of do to a set.
 use Rattle.std.proofs.Common.{◌≡◌, ℕ, ◌≤◌, Bool, true, false, cond, ◌⊎◌, List, [], ◌∷◌, ◌++◌, is_some, Some, None, sym, refl, ap₂, inl, inr, arith}
 use Rattle.std.proofs.lemmas.Bool.Decides.{nat_tests}
 use Rattle.rules.specs.Rules.{Rule, range, In, Covers, Same, Absent, Earlier, Canonical, earlier, same, covers, insert, delete, hop_of}
@@ -161,7 +161,7 @@ in_hop [] c r h = elim h [ ]
 in_hop (x ∷ xs) c r (inl e) = grind (arith, nat_tests)
 in_hop (x ∷ xs) c r (inr h) = let k = c.1 r h in let ih = in_hop xs c.2 r h in grind (arith, nat_tests)
 
--- hop-of tells whether a range is held
+-- hop_of tells whether a range is held
 pub hop_tells : (R : List Rule) (u v : ℕ) → ((is_some (hop_of R u v) ≡ true) × ((x : Rule) × (In x R × Same (range u v) x))) ⊎ ((is_some (hop_of R u v) ≡ false) × Absent (range u v) R)
 unfolding hop_of
 hop_tells [] u v = inr (refl, λ s h e. h)

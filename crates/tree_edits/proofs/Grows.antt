@@ -86,8 +86,8 @@ module _ {A : Type 0} (num : A → ℕ) (lt : Stored A → Stored A → Bool) (n
   uses_is k = ap (λ u. uses k u) O.is
 
   module _ (ms : List (Node A)) (k : ℕ) (q : length ms ≡ length ns) where
-    pub grow-left-parts : Held num ms k (grow lt O.lower i x) → Beyond (grow lt O.lower i x) ns ms → Parts num ms root k n.right (grow lt O.lower i x) O.upper
-    grow-left-parts L far =
+    pub grow_left_parts : Held num ms k (grow lt O.lower i x) → Beyond (grow lt O.lower i x) ns ms → Parts num ms root k n.right (grow lt O.lower i x) O.upper
+    grow_left_parts L far =
         record {
           lower = L;
           upper = held_kept num ns ms n.right O.upper q (λ j d z u. far j d z (grow-uses lt O.lower i x j ∙ omega (arith, not_off O.upper i j (omega (arith, uses_is i)) u, uses_is j, H.apart j))) O.above;
@@ -96,8 +96,8 @@ module _ {A : Type 0} (num : A → ℕ) (lt : Stored A → Stored A → Bool) (n
           within = omega (arith, O.within);
         }
 
-    pub grow-right-parts : Held num ms k (grow lt O.upper i x) → Beyond (grow lt O.upper i x) ns ms → Parts num ms root n.left k O.lower (grow lt O.upper i x)
-    grow-right-parts R far =
+    pub grow_right_parts : Held num ms k (grow lt O.upper i x) → Beyond (grow lt O.upper i x) ns ms → Parts num ms root n.left k O.lower (grow lt O.upper i x)
+    grow_right_parts R far =
         record {
           lower = held_kept num ns ms n.left O.lower q (λ j d z u. far j d z (grow-uses lt O.upper i x j ∙ omega (arith, not_off O.lower i j (omega (arith, uses_is i)) u, uses_is j, H.apart j))) O.below;
           upper = R;
@@ -106,14 +106,14 @@ module _ {A : Type 0} (num : A → ℕ) (lt : Stored A → Stored A → Bool) (n
           within = omega (arith, O.within);
         }
 
-  pub grow-left_is : lt x n.rule ≡ true → grow lt t i x ≡ balance (grow lt O.lower i x) root n.rule O.upper
-  grow-left_is h = ap (λ u. grow lt u i x) O.is ∙ cond-true _ _ _ h
+  pub grow_left_is : lt x n.rule ≡ true → grow lt t i x ≡ balance (grow lt O.lower i x) root n.rule O.upper
+  grow_left_is h = ap (λ u. grow lt u i x) O.is ∙ cond-true _ _ _ h
 
   pub grow_right_is : lt x n.rule ≡ false → grow lt t i x ≡ balance O.lower root n.rule (grow lt O.upper i x)
   grow_right_is h = ap (λ u. grow lt u i x) O.is ∙ cond-false _ _ _ h
 
-  pub grow-left_beyond : (ms ls : List (Node A)) → Beyond (grow lt O.lower i x) ns ms → Beyond (node (grow lt O.lower i x) root n.rule O.upper) ms ls → Beyond (grow lt t i x) ns ls
-  grow-left_beyond ms ls far far' j d z u =
+  pub grow_left_beyond : (ms ls : List (Node A)) → Beyond (grow lt O.lower i x) ns ms → Beyond (node (grow lt O.lower i x) root n.rule O.upper) ms ls → Beyond (grow lt t i x) ns ls
+  grow_left_beyond ms ls far far' j d z u =
       let g = grow-uses lt t i x j in
       let h = grow-uses lt O.lower i x j in
       let s = uses_is j in

@@ -13,7 +13,7 @@ use Rattle.tree.specs.Tree.{RuleTree, leaf, node, rules_in}
 use Rattle.tree.specs.Nodes.{lesser, low_with, Shows, Held}
 use Rattle.tree.proofs.Held.{Opened, empty_is}
 use Rattle.tree.proofs.Cuts.{Cut, cut}
-use Rattle.tree_search.specs.Searches.{starts_by, rest, any, first_of}
+use Rattle.tree_search.specs.Searches.{starts_by, rest, any, first_with}
 
 -- lists
 pub else_none : {X : Type 0} (o : Option X) → o ≡ or_else o None
@@ -33,45 +33,45 @@ any-++ p (x ∷ xs) ys = go (p x) (any-++ p xs ys)
     go true e = refl
     go false e = e
 
-first-++ : (p : Rule → Bool) (xs ys : List Rule) → first_of p (xs ++ ys) ≡ or_else (first_of p xs) (first_of p ys)
-unfolding first_of
+first-++ : (p : Rule → Bool) (xs ys : List Rule) → first_with p (xs ++ ys) ≡ or_else (first_with p xs) (first_with p ys)
+unfolding first_with
 first-++ p [] ys = refl
 first-++ p (x ∷ xs) ys = go (p x) (first-++ p xs ys)
   where
-    go : (b : Bool) → first_of p (xs ++ ys) ≡ or_else (first_of p xs) (first_of p ys) → cond b (Some x) (first_of p (xs ++ ys)) ≡ or_else (cond b (Some x) (first_of p xs)) (first_of p ys)
+    go : (b : Bool) → first_with p (xs ++ ys) ≡ or_else (first_with p xs) (first_with p ys) → cond b (Some x) (first_with p (xs ++ ys)) ≡ or_else (cond b (Some x) (first_with p xs)) (first_with p ys)
     go true e = refl
     go false e = e
 
-none_first : (p : Rule → Bool) (xs : List Rule) → any p xs ≡ false → first_of p xs ≡ None
-unfolding any first_of
+none_first : (p : Rule → Bool) (xs : List Rule) → any p xs ≡ false → first_with p xs ≡ None
+unfolding any first_with
 none_first p [] e = refl
 none_first p (x ∷ xs) e = let q = or_parts (p x) (any p xs) e in cond-false _ _ _ q.0 ∙ none_first p xs q.1
 
-some_first : (p : Rule → Bool) (xs : List Rule) (o : Option Rule) → any p xs ≡ true → or_else (first_of p xs) o ≡ first_of p xs
-unfolding any first_of
+some_first : (p : Rule → Bool) (xs : List Rule) (o : Option Rule) → any p xs ≡ true → or_else (first_with p xs) o ≡ first_with p xs
+unfolding any first_with
 some_first p [] o e = absurd (let z : ◌≡◌ {A = ℕ} 0 1 = ap (λ b. cond b 1 0) e in omega arith)
 some_first p (x ∷ xs) o e = go (p x) e (some_first p xs o)
   where
-    go : (b : Bool) → (b || any p xs) ≡ true → (any p xs ≡ true → or_else (first_of p xs) o ≡ first_of p xs) → or_else (cond b (Some x) (first_of p xs)) o ≡ cond b (Some x) (first_of p xs)
+    go : (b : Bool) → (b || any p xs) ≡ true → (any p xs ≡ true → or_else (first_with p xs) o ≡ first_with p xs) → or_else (cond b (Some x) (first_with p xs)) o ≡ cond b (Some x) (first_with p xs)
     go true e ih = refl
     go false e ih = ih e
 
-first_none : (p : Rule → Bool) (xs : List Rule) → ((y : Rule) → In y xs → p y ≡ false) → first_of p xs ≡ None
-unfolding first_of
+first_none : (p : Rule → Bool) (xs : List Rule) → ((y : Rule) → In y xs → p y ≡ false) → first_with p xs ≡ None
+unfolding first_with
 first_none p [] f = refl
 first_none p (x ∷ xs) f = cond-false _ _ _ (f x (inl refl)) ∙ first_none p xs (λ y i. f y (inr i))
 
-first-same : (p q : Rule → Bool) (xs : List Rule) → ((y : Rule) → In y xs → p y ≡ q y) → first_of p xs ≡ first_of q xs
-unfolding first_of
+first-same : (p q : Rule → Bool) (xs : List Rule) → ((y : Rule) → In y xs → p y ≡ q y) → first_with p xs ≡ first_with q xs
+unfolding first_with
 first-same p q [] f = refl
-first-same p q (x ∷ xs) f = ap (λ b. cond b (Some x) (first_of p xs)) (f x (inl refl)) ∙ ap (λ o. cond (q x) (Some x) o) (first-same p q xs (λ y i. f y (inr i)))
+first-same p q (x ∷ xs) f = ap (λ b. cond b (Some x) (first_with p xs)) (f x (inl refl)) ∙ ap (λ o. cond (q x) (Some x) o) (first-same p q xs (λ y i. f y (inr i)))
 
-first_is : (p : Rule → Bool) (xs : List Rule) → first_of p xs ≡ first p xs
-unfolding first_of first
+first_is : (p : Rule → Bool) (xs : List Rule) → first_with p xs ≡ first p xs
+unfolding first_with first
 first_is p [] = refl
 first_is p (x ∷ xs) = ap (λ o. cond (p x) (Some x) o) (first_is p xs)
 
-pub least_is_first : (R : List Rule) (d : ℕ) → Canonical R → least_finish R d ≡ first_of (λ r. covers r d) R
+pub least_is_first : (R : List Rule) (d : ℕ) → Canonical R → least_finish R d ≡ first_with (λ r. covers r d) R
 least_is_first R d c = first_is_best (λ r. covers r d) R c ∙ sym (first_is (λ r. covers r d) R)
 
 -- the least start tells whether a rule starts by d
@@ -130,17 +130,17 @@ module _ {A : Type 0} (num : A → ℕ) (ns : List (Node A)) (k : ℕ) (u : Rule
 
   -- the first that starts by d
   module _ (d : ℕ) where
-    pub started-left : any (starts_by d) L ≡ true → first_of (starts_by d) (rules_in num u) ≡ first_of (starts_by d) (rules_in num O.lower)
-    started-left e = ap (first_of (starts_by d)) rules_are ∙ first-++ (starts_by d) L (numbered num n.rule ∷ R) ∙ some_first (starts_by d) L (first_of (starts_by d) (numbered num n.rule ∷ R)) e
+    pub started-left : any (starts_by d) L ≡ true → first_with (starts_by d) (rules_in num u) ≡ first_with (starts_by d) (rules_in num O.lower)
+    started-left e = ap (first_with (starts_by d)) rules_are ∙ first-++ (starts_by d) L (numbered num n.rule ∷ R) ∙ some_first (starts_by d) L (first_with (starts_by d) (numbered num n.rule ∷ R)) e
 
-    started-on : any (starts_by d) L ≡ false → first_of (starts_by d) (rules_in num u) ≡ first_of (starts_by d) (numbered num n.rule ∷ R)
-    started-on e = ap (first_of (starts_by d)) rules_are ∙ first-++ (starts_by d) L (numbered num n.rule ∷ R) ∙ ap (λ o. or_else o (first_of (starts_by d) (numbered num n.rule ∷ R))) (none_first (starts_by d) L e)
+    started-on : any (starts_by d) L ≡ false → first_with (starts_by d) (rules_in num u) ≡ first_with (starts_by d) (numbered num n.rule ∷ R)
+    started-on e = ap (first_with (starts_by d)) rules_are ∙ first-++ (starts_by d) L (numbered num n.rule ∷ R) ∙ ap (λ o. or_else o (first_with (starts_by d) (numbered num n.rule ∷ R))) (none_first (starts_by d) L e)
 
-    pub here-first : (b : Bool) → b ≡ ltb d (num n.rule.start) → first_of (starts_by d) (numbered num n.rule ∷ R) ≡ cond b (first_of (starts_by d) R) (Some (numbered num n.rule))
-    unfolding first_of
-    here-first b e = ap (λ z. cond z (Some (numbered num n.rule)) (first_of (starts_by d) R)) (not_before num d n.rule.start b e) ∙ turn b
+    pub here-first : (b : Bool) → b ≡ ltb d (num n.rule.start) → first_with (starts_by d) (numbered num n.rule ∷ R) ≡ cond b (first_with (starts_by d) R) (Some (numbered num n.rule))
+    unfolding first_with
+    here-first b e = ap (λ z. cond z (Some (numbered num n.rule)) (first_with (starts_by d) R)) (not_before num d n.rule.start b e) ∙ turn b
       where
-        turn : (b : Bool) → cond (cond b false true) (Some (numbered num n.rule)) (first_of (starts_by d) R) ≡ cond b (first_of (starts_by d) R) (Some (numbered num n.rule))
+        turn : (b : Bool) → cond (cond b false true) (Some (numbered num n.rule)) (first_with (starts_by d) R) ≡ cond b (first_with (starts_by d) R) (Some (numbered num n.rule))
         turn true = refl
         turn false = refl
 
@@ -152,31 +152,31 @@ module _ {A : Type 0} (num : A → ℕ) (ns : List (Node A)) (k : ℕ) (u : Rule
         turn true = refl
         turn false = refl
 
-    pub started-here : any (starts_by d) L ≡ false → false ≡ ltb d (num n.rule.start) → first_of (starts_by d) (rules_in num u) ≡ Some (numbered num n.rule)
+    pub started-here : any (starts_by d) L ≡ false → false ≡ ltb d (num n.rule.start) → first_with (starts_by d) (rules_in num u) ≡ Some (numbered num n.rule)
     started-here e q = started-on e ∙ here-first false q
 
-    pub started-right : any (starts_by d) L ≡ false → true ≡ ltb d (num n.rule.start) → first_of (starts_by d) (rules_in num u) ≡ first_of (starts_by d) (rules_in num O.upper)
+    pub started-right : any (starts_by d) L ≡ false → true ≡ ltb d (num n.rule.start) → first_with (starts_by d) (rules_in num u) ≡ first_with (starts_by d) (rules_in num O.upper)
     started-right e q = started-on e ∙ here-first true q
 
     -- the first that covers d
     module _ (c : Canonical (rules_in num u)) where
-      pub cover-right : true ≡ ltb (num n.rule.finish) d → first_of (λ r. covers r d) (rules_in num u) ≡ first_of (λ r. covers r d) (rules_in num O.upper)
-      unfolding first_of
+      pub cover-right : true ≡ ltb (num n.rule.finish) d → first_with (λ r. covers r d) (rules_in num u) ≡ first_with (λ r. covers r d) (rules_in num O.upper)
+      unfolding first_with
       cover-right q =
           let C = cut_at c in
           let Y = numbered num n.rule in
           let y : covers Y d ≡ false = grind (arith, nat_tests) in
-          ap (first_of (λ r. covers r d)) rules_are ∙ first-++ (λ r. covers r d) L (Y ∷ R)
-          ∙ ap (λ o. or_else o (first_of (λ r. covers r d) (Y ∷ R))) (first_none (λ r. covers r d) L (λ x i. let b = C.below x i in grind (arith, nat_tests)))
+          ap (first_with (λ r. covers r d)) rules_are ∙ first-++ (λ r. covers r d) L (Y ∷ R)
+          ∙ ap (λ o. or_else o (first_with (λ r. covers r d) (Y ∷ R))) (first_none (λ r. covers r d) L (λ x i. let b = C.below x i in grind (arith, nat_tests)))
           ∙ cond-false _ _ _ y
 
-      pub cover-left : false ≡ ltb (num n.rule.finish) d → first_of (λ r. covers r d) (rules_in num u) ≡ or_else (first_of (λ r. covers r d) (rules_in num O.lower)) (first_of (starts_by d) (rest num u))
+      pub cover-left : false ≡ ltb (num n.rule.finish) d → first_with (λ r. covers r d) (rules_in num u) ≡ or_else (first_with (λ r. covers r d) (rules_in num O.lower)) (first_with (starts_by d) (rest num u))
       cover-left q =
           let C = cut_at c in
           let Y = numbered num n.rule in
-          ap (first_of (λ r. covers r d)) rules_are ∙ first-++ (λ r. covers r d) L (Y ∷ R)
-          ∙ ap (λ o. or_else (first_of (λ r. covers r d) L) o) (first-same (λ r. covers r d) (starts_by d) (Y ∷ R) (λ x i. late x (later x i C)))
-          ∙ ap (λ w. or_else (first_of (λ r. covers r d) L) (first_of (starts_by d) w)) (sym rest_is)
+          ap (first_with (λ r. covers r d)) rules_are ∙ first-++ (λ r. covers r d) L (Y ∷ R)
+          ∙ ap (λ o. or_else (first_with (λ r. covers r d) L) o) (first-same (λ r. covers r d) (starts_by d) (Y ∷ R) (λ x i. late x (later x i C)))
+          ∙ ap (λ w. or_else (first_with (λ r. covers r d) L) (first_with (starts_by d) w)) (sym rest_is)
         where
           late : (x : Rule) → d ≤ x.finish → covers x d ≡ starts_by d x
           late x h = grind (arith, nat_tests)
@@ -186,27 +186,27 @@ module _ {A : Type 0} (num : A → ℕ) (ns : List (Node A)) (k : ℕ) (u : Rule
           later x (inr i) C = let a = C.above x i in grind (arith, nat_tests)
 
 -- one turn to the left: the marked node is u itself where something of it starts by d, else the one before
-pub mark_on : {A : Type 0} (num : A → ℕ) (d : ℕ) (u v : RuleTree A) (T S : Option Rule) → T ≡ or_else (or_else S (first_of (starts_by d) (rest num u))) (first_of (starts_by d) (rest num v))
-    → (b : Bool) → any (starts_by d) (rest num u) ≡ b → T ≡ or_else S (first_of (starts_by d) (rest num (cond b u v)))
-mark_on num d u v T S e true q = e ∙ else_assoc S (first_of (starts_by d) (rest num u)) (first_of (starts_by d) (rest num v)) ∙ ap (or_else S) (some_first (starts_by d) (rest num u) (first_of (starts_by d) (rest num v)) q)
-mark_on num d u v T S e false q = e ∙ else_assoc S (first_of (starts_by d) (rest num u)) (first_of (starts_by d) (rest num v)) ∙ ap (λ o. or_else S (or_else o (first_of (starts_by d) (rest num v)))) (none_first (starts_by d) (rest num u) q)
+pub mark_on : {A : Type 0} (num : A → ℕ) (d : ℕ) (u v : RuleTree A) (T S : Option Rule) → T ≡ or_else (or_else S (first_with (starts_by d) (rest num u))) (first_with (starts_by d) (rest num v))
+    → (b : Bool) → any (starts_by d) (rest num u) ≡ b → T ≡ or_else S (first_with (starts_by d) (rest num (cond b u v)))
+mark_on num d u v T S e true q = e ∙ else_assoc S (first_with (starts_by d) (rest num u)) (first_with (starts_by d) (rest num v)) ∙ ap (or_else S) (some_first (starts_by d) (rest num u) (first_with (starts_by d) (rest num v)) q)
+mark_on num d u v T S e false q = e ∙ else_assoc S (first_with (starts_by d) (rest num u)) (first_with (starts_by d) (rest num v)) ∙ ap (λ o. or_else S (or_else o (first_with (starts_by d) (rest num v)))) (none_first (starts_by d) (rest num u) q)
 
 pub mark_held : {A : Type 0} (num : A → ℕ) (ns : List (Node A)) (k j : ℕ) (u v : RuleTree A) (b : Bool) → Held num ns k u → Held num ns j v → Held num ns (cond b k j) (cond b u v)
 mark_held num ns k j u v true H K = H
 mark_held num ns k j u v false H K = K
 
-pub first_empty : (p : Rule → Bool) → first_of p [] ≡ None
-unfolding first_of
+pub first_empty : (p : Rule → Bool) → first_with p [] ≡ None
+unfolding first_with
 first_empty p = refl
 
 pub reach_none : {A : Type 0} (num : A → ℕ) (ns : List (Node A)) (k : ℕ) (t : RuleTree A) (p : Rule → Bool) → Held num ns k t → k ≡ 0 → false ≡ any p (rules_in num t)
 unfolding any
 reach_none num ns k t p H q = sym (ap (λ u. any p (rules_in num u)) (empty_is num ns k t H q))
 
-pub none_left : {A : Type 0} (num : A → ℕ) (ns : List (Node A)) (k : ℕ) (t : RuleTree A) (p : Rule → Bool) → Held num ns k t → k ≡ 0 → (first_of p (rules_in num t) ≡ None) × (first_of p (rest num t) ≡ None)
-unfolding first_of
-none_left num ns k t p H q = let e = empty_is num ns k t H q in (ap (λ u. first_of p (rules_in num u)) e, ap (λ u. first_of p (rest num u)) e)
+pub none_left : {A : Type 0} (num : A → ℕ) (ns : List (Node A)) (k : ℕ) (t : RuleTree A) (p : Rule → Bool) → Held num ns k t → k ≡ 0 → (first_with p (rules_in num t) ≡ None) × (first_with p (rest num t) ≡ None)
+unfolding first_with
+none_left num ns k t p H q = let e = empty_is num ns k t H q in (ap (λ u. first_with p (rules_in num u)) e, ap (λ u. first_with p (rest num u)) e)
 
-pub covering_start : {A : Type 0} (num : A → ℕ) (d : ℕ) (o : Option Rule) → o ≡ or_else o (first_of (starts_by d) (rest {A = A} num leaf))
-unfolding first_of
+pub covering_start : {A : Type 0} (num : A → ℕ) (d : ℕ) (o : Option Rule) → o ≡ or_else o (first_with (starts_by d) (rest {A = A} num leaf))
+unfolding first_with
 covering_start num d o = else_none o

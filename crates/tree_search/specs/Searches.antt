@@ -23,6 +23,6 @@ any p [] = false
 any p (x ∷ xs) = p x || any p xs
 
 -- the first rule that passes
-unfoldable pub first_of : (Rule → Bool) → List Rule → Option Rule
-first_of p [] = None
-first_of p (x ∷ xs) = cond (p x) (Some x) (first_of p xs)
+unfoldable pub first_with : (Rule → Bool) → List Rule → Option Rule
+first_with p [] = None
+first_with p (x ∷ xs) = cond (p x) (Some x) (first_with p xs)

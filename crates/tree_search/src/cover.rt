@@ -12,7 +12,7 @@ ghost use Rattle.rules.specs.Search.{least_finish};
 ghost use Rattle.rules.specs.Answers.{told};
 ghost use Rattle.tree.specs.Tree.{RuleTree, rules_in};
 ghost use Rattle.tree.specs.Nodes.{Held};
-ghost use Rattle.tree_search.specs.Searches.{starts_by, any, first_of, rest};
+ghost use Rattle.tree_search.specs.Searches.{starts_by, any, first_with, rest};
 
 use address::AddressKind;
 use tree::{Node, at};
@@ -31,7 +31,7 @@ fn reaches<A: AddressKind>(nodes: &[Node<A>], k: u16, d: A) -> bool
 /// The first rule of the tree behind `root` that starts by d.
 fn first_started<A: AddressKind>(nodes: &[Node<A>], root: u16, d: A) -> Option<(A, A, u16)>
     requires { (t : RuleTree A) × Held A.AddressKind.num nodes.now root t }
-    ensures { (t : RuleTree A) → Held A.AddressKind.num nodes.now root t → told A.AddressKind.num result ≡ first_of (starts_by (A.AddressKind.num d)) (rules_in A.AddressKind.num t) }
+    ensures { (t : RuleTree A) → Held A.AddressKind.num nodes.now root t → told A.AddressKind.num result ≡ first_with (starts_by (A.AddressKind.num d)) (rules_in A.AddressKind.num t) }
 {
     let mut k = root;
     while k != 0 {
@@ -65,7 +65,7 @@ fn marked<A: AddressKind>(nodes: &[Node<A>], k: u16, mark: u16, d: A) -> u16
 /// The first rule that starts by d, of the node k and its right tree.
 fn first_rest<A: AddressKind>(nodes: &[Node<A>], k: u16, d: A) -> Option<(A, A, u16)>
     requires { (t : RuleTree A) × Held A.AddressKind.num nodes.now k t }
-    ensures { (t : RuleTree A) → Held A.AddressKind.num nodes.now k t → told A.AddressKind.num result ≡ first_of (starts_by (A.AddressKind.num d)) (rest A.AddressKind.num t) }
+    ensures { (t : RuleTree A) → Held A.AddressKind.num nodes.now k t → told A.AddressKind.num result ≡ first_with (starts_by (A.AddressKind.num d)) (rest A.AddressKind.num t) }
 {
     if k == 0 {
         return None;

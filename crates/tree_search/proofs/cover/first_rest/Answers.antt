@@ -1,6 +1,6 @@
 use Rattle.std.proofs.Common.{true, false, sym, ap, ◌∙◌, arith}
 use Rattle.tree.proofs.Held.{opened}
-use Rattle.tree_search.specs.Searches.{starts_by, first_of}
+use Rattle.tree_search.specs.Searches.{starts_by, first_with}
 use Rattle.tree_search.proofs.Firsts.{rest_is, here-first, none_left}
 use Rattle.tree_search.proofs.cover.first_rest.Goals as goal
 
@@ -22,7 +22,7 @@ returns-then-lt g c =
     let d = num c.args.d in
     λ t H.
     let O = opened num ns c.args.k c.at-n.result t H (c.at-n.ensures t H) in
-    c.first_started.ensures O.upper O.above ∙ sym (ap (first_of (starts_by d)) (rest_is num ns c.args.k t c.at-n.result O) ∙ here-first num ns c.args.k t c.at-n.result O d true c.if-lt.ensures)
+    c.first_started.ensures O.upper O.above ∙ sym (ap (first_with (starts_by d)) (rest_is num ns c.args.k t c.at-n.result O) ∙ here-first num ns c.args.k t c.at-n.result O d true c.if-lt.ensures)
 
 pub returns : goal.returns
 returns g c =
@@ -31,4 +31,4 @@ returns g c =
     let d = num c.args.d in
     λ t H.
     let O = opened num ns c.args.k c.at-n.result t H (c.at-n.ensures t H) in
-    sym (ap (first_of (starts_by d)) (rest_is num ns c.args.k t c.at-n.result O) ∙ here-first num ns c.args.k t c.at-n.result O d false c.if-lt.ensures)
+    sym (ap (first_with (starts_by d)) (rest_is num ns c.args.k t c.at-n.result O) ∙ here-first num ns c.args.k t c.at-n.result O d false c.if-lt.ensures)
