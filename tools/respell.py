@@ -4,7 +4,8 @@
 usage: python3 tools/respell.py [PATH..]      at the top of the checkout; with no path, the sources, definitions and proofs of every crate
 
 respell.tsv has a row for each name: the old spelling, a tab, the new one. A dash stays in a lemma's name where it joins two names.
-Whole words turn, in code and clauses; strings and comments stay, and so does what src/ declares. A second run changes nothing.
+Whole words turn, in code and clauses; strings and comments stay, and so does what src/ declares.
+It is for the landed text alone: a step of today's proofs may rightly have a name that stands in the table, as insert-right in tree_edits.
 """
 
 import pathlib
