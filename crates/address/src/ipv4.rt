@@ -3,11 +3,12 @@
 ghost use Rattle.std.specs.Prelude.{◌≡◌, ◌≤◌};
 ghost use mathlib.Core.HLevel.{is_prop→PathP};
 ghost use Rattle.std.proofs.Math.Bridge.{le_prop};
+ghost use Rattle.std.proofs.Common.{rules};
 
 use crate::kind::AddressKind;
 
 /// An IPv4 address by its 32 bits.
-#[derive(Clone, Copy, PartialEq, Eq, Debug)]
+#[derive(Clone, Copy, PartialEq, Eq, PartialOrd, Ord, Debug)]
 pub struct Ipv4 {
     value: u32,
     ghost ok: { value ≤ 4294967295 },
@@ -36,13 +37,7 @@ impl AddressKind for Ipv4 {
 
     ghost injective = { λ x y e i. record { value = e i; ok = is_prop→PathP (λ j. e j ≤ 4294967295) (λ j. le_prop) x.ok y.ok i } };
 
-    fn lt(self, other: Self) -> bool {
-        self.value < other.value
-    }
-
-    fn same(self, other: Self) -> bool {
-        self.value == other.value
-    }
+    ghost by_number = { Prim.search rules };
 
     fn first() -> Self {
         Ipv4 { value: 0 }
@@ -53,12 +48,7 @@ impl AddressKind for Ipv4 {
     }
 
     fn next(self) -> Option<Self> {
-        if self.value == u32::MAX {
-            return None;
-        }
-        Some(Ipv4 {
-            value: self.value + 1,
-        })
+        self.value.checked_add(1).map(Ipv4::new)
     }
 
     fn mirror(self) -> Self {

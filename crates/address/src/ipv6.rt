@@ -3,12 +3,12 @@
 ghost use Rattle.std.specs.Prelude.{◌≡◌, ◌+◌, ◌-◌, ◌*◌, ◌^◌, ◌<◌};
 ghost use mathlib.Core.HLevel.{is_prop→PathP};
 ghost use Rattle.std.proofs.Math.Bridge.{le_prop};
-ghost use Rattle.std.proofs.Common.{arith};
+ghost use Rattle.std.proofs.Common.{arith, rules};
 
 use crate::kind::AddressKind;
 
 /// An IPv6 address by its halves; the high half counts 2^64 each.
-#[derive(Clone, Copy, PartialEq, Eq, Debug)]
+#[derive(Clone, Copy, PartialEq, Eq, PartialOrd, Ord, Debug)]
 pub struct Ipv6 {
     high: u64,
     low: u64,
@@ -54,13 +54,7 @@ impl AddressKind for Ipv6 {
           low_ok = is_prop→PathP (λ j. l j < 2 ^ 64) (λ j. le_prop) x.low_ok y.low_ok i;
         } };
 
-    fn lt(self, other: Self) -> bool {
-        self.high < other.high || self.high == other.high && self.low < other.low
-    }
-
-    fn same(self, other: Self) -> bool {
-        self.high == other.high && self.low == other.low
-    }
+    ghost by_number = { Prim.search rules };
 
     fn first() -> Self {
         Ipv6 { high: 0, low: 0 }
@@ -74,19 +68,11 @@ impl AddressKind for Ipv6 {
     }
 
     fn next(self) -> Option<Self> {
-        if self.low < u64::MAX {
-            return Some(Ipv6 {
-                high: self.high,
-                low: self.low + 1,
-            });
+        if let Some(low) = self.low.checked_add(1) {
+            return Some(Ipv6::new(self.high, low));
         }
-        if self.high < u64::MAX {
-            return Some(Ipv6 {
-                high: self.high + 1,
-                low: 0,
-            });
-        }
-        None
+        let high = self.high.checked_add(1)?;
+        Some(Ipv6::new(high, 0))
     }
 
     fn mirror(self) -> Self {
@@ -94,5 +80,30 @@ impl AddressKind for Ipv6 {
             high: u64::MAX - self.high,
             low: u64::MAX - self.low,
         }
+    }
+}
+
+/// What a one in the high half counts.
+const HIGH: u128 = 1 << 64;
+
+/// The address of a number.
+impl From<u128> for Ipv6 {
+    ghost use Rattle.address.specs.Numbers.{ipv6_num};
+
+    ghost from_gives = { λ n x. ipv6_num x ≡ n };
+
+    fn from(number: u128) -> Ipv6 {
+        Ipv6::new((number / HIGH) as u64, (number % HIGH) as u64)
+    }
+}
+
+/// The number of an address.
+impl From<Ipv6> for u128 {
+    ghost use Rattle.address.specs.Numbers.{ipv6_num};
+
+    ghost from_gives = { λ x n. n ≡ ipv6_num x };
+
+    fn from(address: Ipv6) -> u128 {
+        u128::from(address.high) * HIGH + u128::from(address.low)
     }
 }

@@ -1,36 +1,13 @@
 //! What every kind of address offers. A kind enters the proofs above it only by `num` and `last`.
 
-ghost use Rattle.std.specs.Prelude.{◌≡◌, ℕ, ◌+◌, ◌-◌, ◌<◌, ◌≤◌, MatchOption, ◌==◌, nat_lt};
-ghost use Rattle.std.specs.Ordering.{MatchOrdering};
+ghost use Rattle.std.specs.Prelude.{◌≡◌, ℕ, ◌+◌, ◌-◌, ◌≤◌, MatchOption};
+ghost use Rattle.std.specs.Ordering.{nat_cmp};
 
-use std::cmp::Ordering;
-
-/// A kind of address: each address has a number from 0 to `last`, and no two have the same.
-pub trait AddressKind: Copy {
+/// A kind of address: each address has a number from 0 to `last`, no two have the same, and they compare by it.
+pub trait AddressKind: Copy + Ord {
     ghost num: { Self → ℕ };
 
     ghost last: { ℕ };
-
-    /// Whether this address comes before the other.
-    fn lt(self, other: Self) -> bool
-        ensures { result ≡ nat_lt (num self) (num other) };
-
-    /// Whether the two are one address.
-    fn same(self, other: Self) -> bool
-        ensures { result ≡ (num self == num other) };
-
-    /// How the two compare by number.
-    fn compare(self, other: Self) -> Ordering
-        ensures { MatchOrdering result (num self < num other) (num self ≡ num other) (num other < num self) }
-    {
-        if self.lt(other) {
-            Ordering::Less
-        } else if self.same(other) {
-            Ordering::Equal
-        } else {
-            Ordering::Greater
-        }
-    }
 
     /// The address with number 0.
     fn first() -> Self
@@ -51,4 +28,6 @@ pub trait AddressKind: Copy {
     ghost bounded: { (x : Self) → num x ≤ last };
 
     ghost injective: { (x y : Self) → num x ≡ num y → x ≡ y };
+
+    ghost by_number: { (x y : Self) → Self.cmp x y ≡ nat_cmp (num x) (num y) };
 }

@@ -4,29 +4,30 @@ ghost use Rattle.std.specs.Prelude.{◌≡◌, ◌-◌};
 ghost use Rattle.std.proofs.Common.{rules};
 
 use crate::kind::AddressKind;
+use std::cmp::Reverse;
 
-/// An address of `K`, counted from the last one down.
-#[derive(Clone, Copy)]
-pub struct Mirror<K>(K);
+/// An address of `K`, counted from the last one down, so in the reverse order.
+#[derive(Clone, Copy, PartialEq, Eq, PartialOrd, Ord)]
+pub struct Mirror<K>(Reverse<K>);
 
 impl<K: AddressKind> Mirror<K> {
     /// The address `x`, to be counted from the other end.
     pub fn of(x: K) -> Mirror<K>
-        ensures { result.0 ≡ x }
+        ensures { result.0.0 ≡ x }
     {
-        Mirror(x)
+        Mirror(Reverse(x))
     }
 
     /// The address, counted from its own end again.
     pub fn back(self) -> K
-        ensures { result ≡ self.0 }
+        ensures { result ≡ self.0.0 }
     {
-        self.0
+        self.0.0
     }
 }
 
 impl<K: AddressKind> AddressKind for Mirror<K> {
-    ghost num = { λ x. K.AddressKind.last - K.AddressKind.num x.0 };
+    ghost num = { λ x. K.AddressKind.last - K.AddressKind.num x.0.0 };
 
     ghost last = { K.AddressKind.last };
 
@@ -34,30 +35,22 @@ impl<K: AddressKind> AddressKind for Mirror<K> {
 
     ghost injective = { Prim.search rules };
 
-    fn lt(self, other: Self) -> bool {
-        other.0.lt(self.0)
-    }
-
-    fn same(self, other: Self) -> bool {
-        self.0.same(other.0)
-    }
+    ghost by_number = { Prim.search rules };
 
     fn first() -> Self {
-        Mirror(K::last())
+        Mirror::of(K::last())
     }
 
     fn last() -> Self {
-        Mirror(K::first())
+        Mirror::of(K::first())
     }
 
     fn next(self) -> Option<Self> {
-        match self.0.mirror().next() {
-            Some(m) => Some(Mirror(m.mirror())),
-            None => None,
-        }
+        let before = self.back().mirror().next()?;
+        Some(Mirror::of(before.mirror()))
     }
 
     fn mirror(self) -> Self {
-        Mirror(self.0.mirror())
+        Mirror::of(self.back().mirror())
     }
 }

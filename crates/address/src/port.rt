@@ -3,11 +3,13 @@
 ghost use Rattle.std.specs.Prelude.{◌≡◌, ◌≤◌};
 ghost use mathlib.Core.HLevel.{is_prop→PathP};
 ghost use Rattle.std.proofs.Math.Bridge.{le_prop};
+ghost use Rattle.std.proofs.Common.{rules};
 
 use crate::kind::AddressKind;
 
 /// A port number.
-#[derive(Clone, Copy, PartialEq, Eq, Debug)]
+// `Ipv4` differs in the integer alone. What both share is `AddressKind`: a struct over the integer would need a second trait with the same members, written for both.
+#[derive(Clone, Copy, PartialEq, Eq, PartialOrd, Ord, Debug)]
 pub struct Port {
     value: u16,
     ghost ok: { value ≤ 65535 },
@@ -36,13 +38,7 @@ impl AddressKind for Port {
 
     ghost injective = { λ x y e i. record { value = e i; ok = is_prop→PathP (λ j. e j ≤ 65535) (λ j. le_prop) x.ok y.ok i } };
 
-    fn lt(self, other: Self) -> bool {
-        self.value < other.value
-    }
-
-    fn same(self, other: Self) -> bool {
-        self.value == other.value
-    }
+    ghost by_number = { Prim.search rules };
 
     fn first() -> Self {
         Port { value: 0 }
@@ -53,12 +49,7 @@ impl AddressKind for Port {
     }
 
     fn next(self) -> Option<Self> {
-        if self.value == u16::MAX {
-            return None;
-        }
-        Some(Port {
-            value: self.value + 1,
-        })
+        self.value.checked_add(1).map(Port::new)
     }
 
     fn mirror(self) -> Self {

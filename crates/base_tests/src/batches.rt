@@ -1,18 +1,11 @@
 //! Each refusal of a commit, what it leaves, and a conflict on the way that is gone at the end.
 
+use crate::places::blank;
 use address::Port;
 use batch::{Batch, Change, Staged};
 use row_store::PortRow;
-use rules::{RangeStore, Refusal, Rule};
+use rules::{RangeStore, Refusal};
 use table::Table;
-
-fn blank() -> Rule<Port> {
-    Rule {
-        start: Port::new(0),
-        finish: Port::new(0),
-        hop: 0,
-    }
-}
 
 fn add(start: u16, finish: u16, hop: u16) -> Change<Port> {
     Change::Add {

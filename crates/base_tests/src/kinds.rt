@@ -14,8 +14,8 @@ fn ports(rt: HostRuntime) -> Result<(), Fail> {
     assert_eq!(rt; next.value(), 80);
     assert!(rt; Port::last().next().is_none());
     assert_eq!(rt; Port::new(10).mirror().value(), 65525);
-    assert!(rt; Port::new(10).lt(Port::new(11)));
-    assert!(rt; !Port::new(11).lt(Port::new(11)));
+    assert!(rt; Port::new(10) < Port::new(11));
+    assert!(rt; !(Port::new(11) < Port::new(11)));
     Ok(())
 }
 
@@ -29,7 +29,7 @@ fn ipv4_addresses(rt: HostRuntime) -> Result<(), Fail> {
     assert_eq!(rt; next.value(), 0x0A000100);
     assert!(rt; Ipv4::last().next().is_none());
     assert_eq!(rt; Ipv4::new(1).mirror().value(), 4294967294);
-    assert!(rt; Ipv4::new(0x0A000001).same(Ipv4::new(0x0A000001)));
+    assert!(rt; Ipv4::new(0x0A000001) == Ipv4::new(0x0A000001));
     Ok(())
 }
 
@@ -50,10 +50,10 @@ fn ipv6_carries_into_the_high_half(rt: HostRuntime) -> Result<(), Fail> {
 
 #[test]
 fn ipv6_compares_high_halves_first(rt: HostRuntime) {
-    assert!(rt; Ipv6::new(1, 9).lt(Ipv6::new(2, 3)));
-    assert!(rt; !Ipv6::new(2, 3).lt(Ipv6::new(1, 9)));
-    assert!(rt; Ipv6::new(2, 3).lt(Ipv6::new(2, 4)));
-    assert!(rt; !Ipv6::new(2, 3).same(Ipv6::new(1, 3)));
+    assert!(rt; Ipv6::new(1, 9) < Ipv6::new(2, 3));
+    assert!(rt; !(Ipv6::new(2, 3) < Ipv6::new(1, 9)));
+    assert!(rt; Ipv6::new(2, 3) < Ipv6::new(2, 4));
+    assert!(rt; Ipv6::new(2, 3) != Ipv6::new(1, 3));
 }
 
 #[test]
@@ -64,8 +64,8 @@ fn mirrored_ports_count_down(rt: HostRuntime) -> Result<(), Fail> {
     };
     assert_eq!(rt; next.back().value(), 4);
     assert!(rt; Mirror::of(Port::new(0)).next().is_none());
-    assert!(rt; five.lt(Mirror::of(Port::new(4))));
-    assert!(rt; five.compare(Mirror::of(Port::new(6))) == Ordering::Greater);
+    assert!(rt; five < Mirror::of(Port::new(4)));
+    assert!(rt; five.cmp(&Mirror::of(Port::new(6))) == Ordering::Greater);
     let first: Mirror<Port> = Mirror::first();
     assert_eq!(rt; first.back().value(), 65535);
     Ok(())

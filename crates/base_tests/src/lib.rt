@@ -8,6 +8,8 @@ mod kinds;
 #[cfg(test)]
 mod lookups;
 #[cfg(test)]
+mod places;
+#[cfg(test)]
 mod refusals;
 #[cfg(test)]
 mod rows;

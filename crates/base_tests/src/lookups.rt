@@ -1,26 +1,11 @@
 //! Making and lookups, also over a store that was filled by direct puts.
 
+use crate::places::blank;
 use address::Port;
 use row_store::PortRow;
-use rules::{RangeStore, Refusal, Rule};
+use rules::{RangeStore, Refusal};
 use std::test::Fail;
 use table::Table;
-
-fn blank() -> Rule<Port> {
-    Rule {
-        start: Port::new(0),
-        finish: Port::new(0),
-        hop: 0,
-    }
-}
-
-/// Why a lookup was refused, or none.
-fn refused(answer: Result<(Port, Port, u16), Refusal>) -> Option<Refusal> {
-    match answer {
-        Ok(_) => None,
-        Err(refusal) => Some(refusal),
-    }
-}
 
 #[test]
 fn made_once(rt: HostRuntime) -> Result<(), Fail> {
@@ -47,8 +32,8 @@ fn crossing_ranges_put_directly(rt: HostRuntime) -> Result<(), Fail> {
     let mut table = PortRow::new(&mut row);
     assert!(rt; table.put(Port::new(10), Port::new(30), 1).is_ok());
     assert!(rt; table.put(Port::new(20), Port::new(40), 2).is_ok());
-    assert!(rt; refused(table.lookup(Port::new(25))) == Some(Refusal::Ambiguous));
-    assert!(rt; refused(table.lookup(Port::new(50))) == Some(Refusal::Uncovered));
+    assert!(rt; table.lookup(Port::new(25)).err() == Some(Refusal::Ambiguous));
+    assert!(rt; table.lookup(Port::new(50)).err() == Some(Refusal::Uncovered));
     assert_eq!(rt; table.lookup(Port::new(15))?.2, 1);
     assert_eq!(rt; table.lookup(Port::new(35))?.2, 2);
     Ok(())

@@ -5,25 +5,12 @@ use row_store::PortRow;
 use rules::{RangeStore, Refusal, Rule};
 
 /// A rule to fill memory with before a store takes it.
+// Each test has junk of its own: a store begins empty, whatever it finds.
 fn blank() -> Rule<Port> {
     Rule {
         start: Port::new(9),
         finish: Port::new(3),
         hop: 77,
-    }
-}
-
-fn hop(rule: Option<(Port, Port, u16)>) -> Option<u16> {
-    match rule {
-        Some(rule) => Some(rule.2),
-        None => None,
-    }
-}
-
-fn value(port: Option<Port>) -> Option<u16> {
-    match port {
-        Some(port) => Some(port.value()),
-        None => None,
     }
 }
 
@@ -59,9 +46,21 @@ fn questions(rt: HostRuntime) {
     assert!(rt; store.put(Port::new(10), Port::new(30), 1).is_ok());
     assert!(rt; store.put(Port::new(20), Port::new(30), 2).is_ok());
     assert!(rt; store.put(Port::new(0), Port::new(65535), 3).is_ok());
-    assert_eq!(rt; hop(store.least_finish(Port::new(25))), Some(2));
-    assert_eq!(rt; hop(store.greatest_start(Port::new(15))), Some(1));
-    assert_eq!(rt; value(store.next_boundary(Port::new(10))), Some(20));
-    assert_eq!(rt; value(store.next_boundary(Port::new(20))), Some(31));
-    assert_eq!(rt; value(store.next_boundary(Port::new(31))), None);
+    assert_eq!(rt;
+        store.least_finish(Port::new(25)).map(|rule| rule.2),
+        Some(2)
+    );
+    assert_eq!(rt;
+        store.greatest_start(Port::new(15)).map(|rule| rule.2),
+        Some(1)
+    );
+    assert_eq!(rt;
+        store.next_boundary(Port::new(10)).map(Port::value),
+        Some(20)
+    );
+    assert_eq!(rt;
+        store.next_boundary(Port::new(20)).map(Port::value),
+        Some(31)
+    );
+    assert_eq!(rt; store.next_boundary(Port::new(31)).map(Port::value), None);
 }

@@ -1,17 +1,10 @@
 //! Adds and removes at a full store, and where ranges cross.
 
+use crate::places::blank;
 use address::Port;
 use row_store::PortRow;
-use rules::{RangeStore, Refusal, Rule};
+use rules::{RangeStore, Refusal};
 use table::Table;
-
-fn blank() -> Rule<Port> {
-    Rule {
-        start: Port::new(0),
-        finish: Port::new(0),
-        hop: 0,
-    }
-}
 
 #[test]
 fn a_full_table_takes_no_other_range(rt: HostRuntime) {

@@ -1,6 +1,6 @@
 -- The changes of a list one after another.
-use Rattle.std.proofs.Common.{◌≡◌, ℕ, ◌+◌, ◌<◌, ◌≤◌, cond, List, [], ◌∷◌, ◌++◌, length, get_or, take, drop, set, is_ok, Ok, Err, Option, sym, refl, ap, ◌∙◌, arith}
-use Rattle.std.proofs.lemmas.List.{take_more_set, drop_more, drop_all, drop-set-lt, map-set, set-get_or, get_or-map, get_or-take, length-take-le, length-map}
+use Rattle.std.proofs.Common.{◌≡◌, ℕ, ◌+◌, ◌<◌, ◌≤◌, cond, List, [], ◌∷◌, length, get_or, take, drop, set, is_ok, Ok, Err, Option, sym, refl, ap, ◌∙◌, arith}
+use Rattle.std.proofs.lemmas.List.{take_more_set, take-set, take_all, drop_more, drop_all, drop-set-lt, map-set, set-get_or, get_or-map}
 use Rattle.rules.specs.declared.refusal.Refusal.{Refusal}
 use Rattle.rules.specs.Rules.{Rule}
 use Rattle.batch.specs.declared.change.Change.{Change}
@@ -9,100 +9,82 @@ use Rattle.batch.specs.Changes.{numbered_change, start_of, finish_of, numbered_c
 use Rattle.batch.specs.Applied.{change_answer, change_rules, change_left, all_answer, all_rules, all_left, then, undone, unwind}
 use Rattle.batch.proofs.Backs.{unwind_push}
 
-module _ {A : Type 0} (num : A → ℕ) (last capacity n : ℕ) (R : List Rule) (xs : List (Staged A)) where
-  -- after i changes of the first n of xs to R: the rules are S, the list is ys
+-- a place written with its own change and another note
+abbrev pub noted : {A : Type 0} → Staged A → Option ℕ → Staged A
+noted x note = record { change = x.change; note = note }
+
+module _ {A : Type 0} (num : A → ℕ) (last capacity : ℕ) (R : List Rule) (xs : List (Staged A)) where
+  -- after i changes of xs to R: the rules are S, the list is ys
   pub record Going (room : ℕ) (S : List Rule) (ys : List (Staged A)) (i : ℕ) : Type 0 where
     pub same : room ≡ capacity
-    pub answer : all_answer last capacity S (drop i (take n (numbered_changes num xs))) ≡ all_answer last capacity R (take n (numbered_changes num xs))
-    pub left : all_rules S (drop i (take n (numbered_changes num xs))) ≡ all_rules R (take n (numbered_changes num xs))
+    pub answer : all_answer last capacity S (numbered_changes num (drop i ys)) ≡ all_answer last capacity R (numbered_changes num xs)
+    pub left : all_rules S (numbered_changes num (drop i ys)) ≡ all_rules R (numbered_changes num xs)
     pub back : unwind num capacity S (take i ys) ≡ R
     pub kept : changes ys ≡ changes xs
-    pub rest : drop n ys ≡ drop n xs
 
   pub going_start : Going capacity R xs 0
   unfolding unwind
-  going_start = record { same = refl; answer = refl; left = refl; back = refl; kept = refl; rest = refl }
+  going_start = record { same = refl; answer = refl; left = refl; back = refl; kept = refl }
 
-  head_err : (S : List Rule) (os os' : List (Change ℕ)) (o : Change ℕ) (e : Refusal) → os ≡ o ∷ os' → Err e ≡ change_answer last capacity S o → Err e ≡ all_answer last capacity S os
-  unfolding all_answer
-  head_err S os os' o e q a = sym (ap (all_answer last capacity S) q ∙ ap (λ t. then t (all_answer last capacity (change_rules S o) os')) (sym a))
+  module _ (room : ℕ) (S : List Rule) (ys : List (Staged A)) (i : ℕ) (d : Staged A) (go : Going room S ys i) (h : i < length ys) where
+    abbrev here : Staged A
+    here = get_or ys i d
 
-  head_ok : (S : List Rule) (os os' : List (Change ℕ)) (o : Change ℕ) → os ≡ o ∷ os' → Ok tt ≡ change_answer last capacity S o → all_answer last capacity (change_rules S o) os' ≡ all_answer last capacity S os
-  unfolding all_answer
-  head_ok S os os' o q a = sym (ap (all_answer last capacity S) q ∙ ap (λ t. then t (all_answer last capacity (change_rules S o) os')) (sym a))
+    abbrev change : Change ℕ
+    change = numbered_change num here.change
 
-  head_rules : (S : List Rule) (os os' : List (Change ℕ)) (o : Change ℕ) → os ≡ o ∷ os' → all_rules (change_rules S o) os' ≡ all_rules S os
-  unfolding all_rules
-  head_rules S os os' o q = sym (ap (all_rules S) q)
+    abbrev behind : List (Change ℕ)
+    behind = numbered_changes num (drop (i + 1) ys)
 
-  left_ok : (S : List Rule) (o : Change ℕ) → Ok tt ≡ change_answer last capacity S o → change_left last capacity S o ≡ change_rules S o
-  left_ok S o a = ap (λ t. cond (is_ok t) (change_rules S o) S) (sym a)
+    next : numbered_changes num (drop i ys) ≡ change ∷ behind
+    next = ap (numbered_changes num) (drop_more ys i d h)
 
-  module _ (room : ℕ) (S : List Rule) (ys : List (Staged A)) (i : ℕ) (x : Staged A) (go : Going room S ys i) (h : i < n) (l : n ≤ length ys) (e : x ≡ get_or ys i x) where
-    next : drop i (take n (numbered_changes num xs)) ≡ numbered_change num x.change ∷ drop (i + 1) (take n (numbered_changes num xs))
-    next =
-        let C = changes xs in
-        let lc : length C ≡ length ys = ap length (sym go.kept) ∙ length-map ys (λ y. y.change) in
-        let lo : length (numbered_changes num xs) ≡ length C = length-map C (numbered_change num) in
-        let lt : length (take n (numbered_changes num xs)) ≡ n = length-take-le n (numbered_changes num xs) (omega arith) in
-        let o = numbered_change num x.change in
-        let a : get_or (numbered_changes num xs) i o ≡ numbered_change num (get_or C i x.change) = get_or-map (numbered_change num) C i x.change o (omega arith) in
-        let b : get_or C i x.change ≡ x.change =
-        ap (λ c. get_or c i x.change) (sym go.kept) ∙ (get_or-map (λ y. y.change) ys i x x.change (omega arith) ∙ ap (λ y. y.change) (sym e)) in
-        let d : get_or (take n (numbered_changes num xs)) i o ≡ o = get_or-take n (numbered_changes num xs) i o h ∙ (a ∙ ap (numbered_change num) b) in
-        drop_more (take n (numbered_changes num xs)) i o (omega arith) ∙ ap (λ y. y ∷ drop (i + 1) (take n (numbered_changes num xs))) d
+    answer_here : all_answer last capacity S (change ∷ behind) ≡ all_answer last capacity R (numbered_changes num xs)
+    answer_here = ap (all_answer last capacity S) (sym next) ∙ go.answer
 
-    pub going-err : (f : Refusal) → Err f ≡ change_answer last room S (numbered_change num x.change) → Err f ≡ all_answer last capacity R (take n (numbered_changes num xs))
+    pub going-err : (f : Refusal) → Err f ≡ change_answer last room S change → Err f ≡ all_answer last capacity R (numbered_changes num xs)
+    unfolding all_answer
     going-err f a =
-        let a' : Err f ≡ change_answer last capacity S (numbered_change num x.change) = a ∙ ap (λ k. change_answer last k S (numbered_change num x.change)) go.same in
-        head_err S (drop i (take n (numbered_changes num xs))) (drop (i + 1) (take n (numbered_changes num xs))) (numbered_change num x.change) f next a' ∙ go.answer
+        ap (λ t. then t (all_answer last capacity (change_rules S change) behind)) (a ∙ ap (λ k. change_answer last k S change) go.same) ∙ answer_here
 
-    pub going_on : (room' : ℕ) (T : List Rule) (zs : List (Staged A)) (note : Option ℕ) → room' ≡ room
-        → Ok tt ≡ change_answer last room S (numbered_change num x.change) → T ≡ change_left last room S (numbered_change num x.change)
-        → undone room T (num (start_of x.change)) (num (finish_of x.change)) note ≡ S
-        → zs ≡ set ys i (record { change = x.change; note = note })
-        → Going room' T zs (i + 1)
-    going_on room' T zs note m a s b z =
-        let o = numbered_change num x.change in
-        let x' : Staged A = record { change = x.change; note = note } in
-        let os = drop i (take n (numbered_changes num xs)) in
-        let os' = drop (i + 1) (take n (numbered_changes num xs)) in
-        let a' : Ok tt ≡ change_answer last capacity S o = a ∙ ap (λ k. change_answer last k S o) go.same in
-        let s' : T ≡ change_rules S o = s ∙ (ap (λ k. change_left last k S o) go.same ∙ left_ok S o a') in
-        let b' : undone capacity T (num (start_of x.change)) (num (finish_of x.change)) note ≡ S = ap (λ k. undone k T (num (start_of x.change)) (num (finish_of x.change)) note) (sym go.same) ∙ b in
-        let t : take (i + 1) zs ≡ take i ys ++ x' ∷ [] = ap (take (i + 1)) z ∙ take_more_set ys i x' (omega arith) in
-        let k : changes (set ys i x') ≡ changes ys =
-        map-set (λ y. y.change) ys i x'
-        ∙ (ap (λ y. set (changes ys) i y) (ap (λ y. y.change) e ∙ sym (get_or-map (λ y. y.change) ys i x x.change (omega arith)))
-        ∙ set-get_or (changes ys) i x.change) in
+    pub going_on : (room' : ℕ) (T : List Rule) (note : Option ℕ) → room' ≡ room → Ok tt ≡ change_answer last room S change → T ≡ change_left last room S change
+        → undone room T (num (start_of here.change)) (num (finish_of here.change)) note ≡ S
+        → Going room' T (set ys i (noted here note)) (i + 1)
+    unfolding all_answer all_rules
+    going_on room' T note m a s b =
+        let x = noted here note in
+        let a' : Ok tt ≡ change_answer last capacity S change = a ∙ ap (λ k. change_answer last k S change) go.same in
+        let s' : T ≡ change_rules S change = s ∙ ap (λ t. cond (is_ok t) (change_rules S change) S) (sym a) in
+        let b' : undone capacity T (num (start_of here.change)) (num (finish_of here.change)) note ≡ S = ap (λ k. undone k T (num (start_of here.change)) (num (finish_of here.change)) note) (sym go.same) ∙ b in
+        let r : drop (i + 1) (set ys i x) ≡ drop (i + 1) ys = drop-set-lt (i + 1) ys i x (omega arith) in
+        let k : changes (set ys i x) ≡ changes ys =
+        map-set (λ y. y.change) ys i x
+        ∙ (ap (λ y. set (changes ys) i y) (sym (get_or-map (λ y. y.change) ys i d here.change h)) ∙ set-get_or (changes ys) i here.change) in
         record {
           same = m ∙ go.same;
-          answer = ap (λ U. all_answer last capacity U os') s' ∙ (head_ok S os os' o next a' ∙ go.answer);
-          left = ap (λ U. all_rules U os') s' ∙ (head_rules S os os' o next ∙ go.left);
-          back = ap (unwind num capacity T) t ∙ (unwind_push num capacity T (take i ys) x' ∙ (ap (λ U. unwind num capacity U (take i ys)) b' ∙ go.back));
-          kept = ap changes z ∙ (k ∙ go.kept);
-          rest = ap (drop n) z ∙ (drop-set-lt n ys i x' h ∙ go.rest);
+          answer = rw (r, s') (ap (λ t. then t (all_answer last capacity (change_rules S change) behind)) a' ∙ answer_here);
+          left = rw (r, s') (ap (all_rules S) (sym next) ∙ go.left);
+          back = rw (take_more_set ys i x h, unwind_push num capacity T (take i ys) x, b') go.back;
+          kept = k ∙ go.kept;
         }
 
-  pub undone_all : (room : ℕ) (S T U : List Rule) (ys : List (Staged A)) (i : ℕ) → Going room S ys i → (room' : ℕ) → room' ≡ room → T ≡ S → U ≡ unwind num room' T (take i ys) → U ≡ R
-  undone_all room S T U ys i go room' m t u = u ∙ (ap (λ k. unwind num k T (take i ys)) (m ∙ go.same) ∙ (ap (λ V. unwind num capacity V (take i ys)) t ∙ go.back))
-
-  pub left_err : (f : Refusal) → Err f ≡ all_answer last capacity R (take n (numbered_changes num xs)) → R ≡ all_left last capacity R (take n (numbered_changes num xs))
-  left_err f a = ap (λ t. cond (is_ok t) (all_rules R (take n (numbered_changes num xs))) R) a
+    -- a refused change leaves the set as it was, and the changes before it are taken back
+    pub going_back : (f : Refusal) (room' : ℕ) (T U : List Rule) → room' ≡ room → Err f ≡ change_answer last room S change → T ≡ S
+        → U ≡ unwind num room' T (take i (set ys i here)) → U ≡ all_left last capacity R (numbered_changes num xs)
+    going_back f room' T U m a t u =
+        let b : U ≡ R = u ∙ rw (m, t, take-set ys i here, go.same) go.back in
+        b ∙ ap (λ t. cond (is_ok t) (all_rules R (numbered_changes num xs)) R) (going-err f a)
 
   pub record Done (S : List Rule) (ys : List (Staged A)) : Type 0 where
-    pub answer : Ok tt ≡ all_answer last capacity R (take n (numbered_changes num xs))
-    pub after : S ≡ all_left last capacity R (take n (numbered_changes num xs))
-    pub back : unwind num capacity S (take n ys) ≡ R
+    pub answer : Ok tt ≡ all_answer last capacity R (numbered_changes num xs)
+    pub after : S ≡ all_left last capacity R (numbered_changes num xs)
+    pub back : unwind num capacity S ys ≡ R
 
-  pub going_end : (room : ℕ) (S : List Rule) (ys : List (Staged A)) (i : ℕ) → Going room S ys i → i ≡ n → n ≤ length ys → Done S ys
+  pub going_end : (room : ℕ) (S : List Rule) (ys : List (Staged A)) (i : ℕ) → Going room S ys i → length ys ≤ i → Done S ys
   unfolding all_answer all_rules
-  going_end room S ys i go h l =
-      let os = take n (numbered_changes num xs) in
-      let lc : length (changes xs) ≡ length ys = ap length (sym go.kept) ∙ length-map ys (λ y. y.change) in
-      let lo : length (numbered_changes num xs) ≡ length (changes xs) = length-map (changes xs) (numbered_change num) in
-      let lt : length os ≡ n = length-take-le n (numbered_changes num xs) (omega arith) in
-      let d : drop i os ≡ [] = drop_all i os (omega arith) in
-      let a : Ok tt ≡ all_answer last capacity R os = sym (ap (all_answer last capacity S) d) ∙ go.answer in
-      let w : S ≡ all_rules R os = sym (ap (all_rules S) d) ∙ go.left in
-      record { answer = a; after = w ∙ ap (λ t. cond (is_ok t) (all_rules R os) R) a; back = ap (λ j. unwind num capacity S (take j ys)) (sym h) ∙ go.back }
+  going_end room S ys i go l =
+      let d : drop i ys ≡ [] = drop_all i ys l in
+      let t : take i ys ≡ ys = take_all i ys l in
+      let a : Ok tt ≡ all_answer last capacity R (numbered_changes num xs) = rw d at go.answer in
+      let w : S ≡ all_rules R (numbered_changes num xs) = rw d at go.left in
+      record { answer = a; after = w ∙ ap (λ t. cond (is_ok t) (all_rules R (numbered_changes num xs)) R) a; back = rw t at go.back }

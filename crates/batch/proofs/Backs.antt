@@ -1,13 +1,10 @@
 -- What takes a change back.
-use Rattle.std.proofs.Common.{◌≡◌, ℕ, ◌+◌, ◌-◌, ◌<◌, ◌≤◌, min, Bool, true, false, ltb, List, [], ◌∷◌, ◌++◌, length, get_or, take, is_some, Some, None, Ok, Option, sym, refl, ap, ◌∙◌, inl, inr, arith}
+use Rattle.std.proofs.Common.{◌≡◌, ℕ, Bool, true, false, ltb, List, [], ◌∷◌, ◌++◌, length, is_some, Some, None, Ok, Option, sym, refl, ap, ◌∙◌, arith}
 use Rattle.std.proofs.lemmas.Bool.Decides.{nat_tests}
-use Rattle.std.proofs.lemmas.List.{take_more, take_all}
-use Rattle.std.proofs.lemmas.Bool.{cases_lt}
-use native.Mathlib.Nat.{min-eq_left, min-eq_right}
 use Rattle.rules.specs.Rules.{Rule, rule, range, Same, Canonical, same, earlier, insert, hop_of}
-use Rattle.rules.specs.Answers.{Sound, put_answer, put_rules}
+use Rattle.rules.specs.Answers.{Sound, put_answer, put_rules, take_rules}
 use Rattle.rules.proofs.Members.{delete-insert, hop_in, hop-insert, absent_hop}
-use Rattle.rules.proofs.Places.{took}
+use Rattle.rules.proofs.Places.{put_back, took}
 use Rattle.batch.specs.declared.staging.Staged.{Staged}
 use Rattle.batch.specs.Changes.{start_of, finish_of}
 use Rattle.batch.specs.Applied.{undone, unwind}
@@ -35,22 +32,28 @@ replace_back u v h k (x ∷ xs) c e = go (same (range u v) x) refl (replace_back
         let q : earlier (rule u v h) x ≡ false = grind (arith, nat_tests) in
         rw (s, q, s, q) (ap (λ t. x ∷ t) (ih m))
 
-pub added_back : (capacity last : ℕ) (R P : List Rule) (u v h : ℕ) (o : Option ℕ) → Sound capacity last R → o ≡ hop_of R u v → Ok tt ≡ put_answer capacity R u v → P ≡ put_rules capacity R u v h → undone capacity P u v o ≡ R
-added_back capacity last R P u v h o c e a p = let i : P ≡ insert (rule u v h) R = p ∙ rw (← a) in go o e i
+-- an add that was accepted is taken back by the hop that the range had
+pub added_back : (capacity last : ℕ) (R : List Rule) (u v h : ℕ) (o : Option ℕ) → Sound capacity last R → o ≡ hop_of R u v → Ok tt ≡ put_answer capacity R u v → undone capacity (put_rules capacity R u v h) u v o ≡ R
+added_back capacity last R u v h o c e a = rw (← a) (go o e)
   where
     forward : ltb v u ≡ false
     forward = grind (arith, nat_tests)
 
-    go : (o : Option ℕ) → o ≡ hop_of R u v → P ≡ insert (rule u v h) R → undone capacity P u v o ≡ R
-    go None e i =
+    own : same (range u v) (rule u v h) ≡ true
+    own = grind (arith, nat_tests)
+
+    go : (o : Option ℕ) → o ≡ hop_of R u v → undone capacity (insert (rule u v h) R) u v o ≡ R
+    go None e =
         let n : is_some (hop_of R u v) ≡ false = rw (← e) in
-        let y : same (range u v) (rule u v h) ≡ true = grind (arith, nat_tests) in
-        let m : hop_of P u v ≡ Some h = rw (i, hop-insert (rule u v h) R u v, y) in
-        took P u v h forward m ∙ rw (i, delete-insert (rule u v h) R (absent_hop R u v n))
-    go (Some k) e i =
-        let y : same (range u v) (rule u v h) ≡ true = grind (arith, nat_tests) in
-        let n : is_some (hop_of (insert (rule u v h) R) u v) ≡ true = rw (hop-insert (rule u v h) R u v, y) in
-        rw (i, forward, n) (replace_back u v h k R c.canonical (sym e))
+        let m : hop_of (insert (rule u v h) R) u v ≡ Some h = rw (hop-insert (rule u v h) R u v, own) in
+        took (insert (rule u v h) R) u v h forward m ∙ delete-insert (rule u v h) R (absent_hop R u v n)
+    go (Some k) e =
+        let n : is_some (hop_of (insert (rule u v h) R) u v) ≡ true = rw (hop-insert (rule u v h) R u v, own) in
+        rw (forward, n) (replace_back u v h k R c.canonical (sym e))
+
+-- a range that was held is put back with its hop
+pub removed_back : (capacity last : ℕ) (R : List Rule) (u v h : ℕ) → Sound capacity last R → false ≡ ltb v u → Some h ≡ hop_of R u v → put_rules capacity (take_rules R u v) u v h ≡ R
+removed_back capacity last R u v h c t e = rw (took R u v h (sym t) (sym e)) (put_back capacity u v h R c.canonical c.within t e)
 
 module _ {A : Type 0} (num : A → ℕ) (capacity : ℕ) where
   pub unwind_push : (R : List Rule) (xs : List (Staged A)) (x : Staged A)
@@ -59,30 +62,7 @@ module _ {A : Type 0} (num : A → ℕ) (capacity : ℕ) where
   unwind_push R [] x = refl
   unwind_push R (y ∷ ys) x = ap (λ S. undone capacity S (num (start_of y.change)) (num (finish_of y.change)) y.note) (unwind_push R ys x)
 
-  unwind_at : (Z R S : List Rule) (xs : List (Staged A)) (j : ℕ) (x : Staged A) → j < length xs → x ≡ get_or xs j x
-      → unwind num capacity R (take (j + 1) xs) ≡ Z → S ≡ undone capacity R (num (start_of x.change)) (num (finish_of x.change)) x.note → unwind num capacity S (take j xs) ≡ Z
-  unwind_at Z R S xs j x l e v s =
-      let t : take (j + 1) xs ≡ take j xs ++ x ∷ [] = take_more xs j x l ∙ ap (λ y. take j xs ++ y ∷ []) (sym e) in
-      let w : unwind num capacity R (take j xs ++ x ∷ []) ≡ Z = rw t at v in
-      rw s (sym (unwind_push R (take j xs) x) ∙ w)
-
-  -- a turn of the loop downwards
-  pub unwind_on : (room : ℕ) → room ≡ capacity → (Z R S : List Rule) (xs : List (Staged A)) (i : ℕ) (x : Staged A) → 0 < i → i ≤ length xs → x ≡ get_or xs (i - 1) x
-      → unwind num capacity R (take i xs) ≡ Z → S ≡ undone room R (num (start_of x.change)) (num (finish_of x.change)) x.note → unwind num capacity S (take (i - 1) xs) ≡ Z
-  unwind_on room m Z R S xs i x z l e v s =
-      let j : i - 1 + 1 ≡ i = omega arith in
-      let w : unwind num capacity R (take (i - 1 + 1) xs) ≡ Z = rw j v in
-      unwind_at Z R S xs (i - 1) x (omega arith) e w (s ∙ ap (λ k. undone k R (num (start_of x.change)) (num (finish_of x.change)) x.note) m)
-
-  pub unwind_none : (Z R : List Rule) (xs : List (Staged A)) (i : ℕ) → i ≤ 0 → unwind num capacity R (take i xs) ≡ Z → R ≡ Z
+  pub unwind_none : (R : List Rule) (xs : List (Staged A)) → length xs ≡ 0 → unwind num capacity R xs ≡ R
   unfolding unwind
-  unwind_none Z R xs i h e = let z : i ≡ 0 = omega arith in rw z at e
-
-pub take_within : {X : Type 0} (n m : ℕ) (xs : List X) → m ≡ min n (length xs) → take m xs ≡ take n xs
-take_within n m xs e = elim (cases_lt n (length xs)) [ inl h ↦ near h | inr h ↦ far h ]
-  where
-    near : n < length xs → take m xs ≡ take n xs
-    near h = ap (λ k. take k xs) (e ∙ min-eq_left (omega arith))
-
-    far : length xs ≤ n → take m xs ≡ take n xs
-    far h = let z : m ≡ length xs = e ∙ min-eq_right h in take_all m xs (omega arith) ∙ sym (take_all n xs h)
+  unwind_none R [] h = refl
+  unwind_none R (x ∷ xs) h = absurd (omega arith)

@@ -8,11 +8,12 @@ ghost use Rattle.batch.specs.Staging.{count_of};
 ghost use Rattle.batch.specs.Applied.{bare, change_answer, change_left, all_answer, all_left, apply_answer, apply_rules, Back, unwind};
 
 use crate::change::Change;
-use crate::places::set_at;
 use crate::staging::{Batch, Staged};
 use crate::undoing::undo;
 use address::AddressKind;
 use rules::{RangeStore, Refusal, is_default};
+
+// `room` stands on each function that changes the store: no type says of a value that a call leaves a part of it as it was.
 
 /// Puts the range, and answers the hop that it had.
 fn apply_add<S: RangeStore>(
@@ -42,7 +43,7 @@ fn apply_remove<S: RangeStore>(
     ensures room { S.RangeStore.capacity store.new ≡ S.RangeStore.capacity store.old }
     ensures back { Back (S.RangeStore.capacity store.old) (S.RangeStore.rules store.old) (S.RangeStore.rules store.new) (S.Kind.AddressKind.num start) (S.Kind.AddressKind.num finish) result }
 {
-    if finish.lt(start) {
+    if finish < start {
         return Err(Refusal::Backwards);
     }
     if is_default(start, finish) {
@@ -68,26 +69,19 @@ fn apply_one<S: RangeStore>(store: &mut S, change: &Change<S::Kind>) -> Result<O
     }
 }
 
-/// Applies the first `n` changes in order, or none of them.
-fn apply_all<S: RangeStore>(
-    store: &mut S,
-    list: &mut [Staged<S::Kind>],
-    n: usize,
-) -> Result<(), Refusal>
-    requires { n ≤ length list.old }
-    ensures answer { result ≡ all_answer S.Kind.AddressKind.last (S.RangeStore.capacity store.old) (S.RangeStore.rules store.old) (take n (numbered_changes S.Kind.AddressKind.num list.old)) }
-    ensures after { S.RangeStore.rules store.new ≡ all_left S.Kind.AddressKind.last (S.RangeStore.capacity store.old) (S.RangeStore.rules store.old) (take n (numbered_changes S.Kind.AddressKind.num list.old)) }
+/// Applies the changes in order, or none of them.
+fn apply_all<S: RangeStore>(store: &mut S, list: &mut [Staged<S::Kind>]) -> Result<(), Refusal>
+    ensures answer { result ≡ all_answer S.Kind.AddressKind.last (S.RangeStore.capacity store.old) (S.RangeStore.rules store.old) (numbered_changes S.Kind.AddressKind.num list.old) }
+    ensures after { S.RangeStore.rules store.new ≡ all_left S.Kind.AddressKind.last (S.RangeStore.capacity store.old) (S.RangeStore.rules store.old) (numbered_changes S.Kind.AddressKind.num list.old) }
     ensures room { S.RangeStore.capacity store.new ≡ S.RangeStore.capacity store.old }
     ensures kept { changes list.new ≡ changes list.old }
-    ensures rest { drop n list.new ≡ drop n list.old }
-    ensures back { is_ok result ≡ true → unwind S.Kind.AddressKind.num (S.RangeStore.capacity store.old) (S.RangeStore.rules store.new) (take n list.new) ≡ S.RangeStore.rules store.old }
+    ensures back { is_ok result ≡ true → unwind S.Kind.AddressKind.num (S.RangeStore.capacity store.old) (S.RangeStore.rules store.new) list.new ≡ S.RangeStore.rules store.old }
 {
-    for i in 0..n {
-        let change = list[i].change;
-        match apply_one(store, &change) {
-            Ok(note) => set_at(list, i, Staged { change, note }),
+    for (i, staged) in list.iter_mut().enumerate() {
+        match apply_one(store, &staged.change) {
+            Ok(note) => staged.note = note,
             Err(refusal) => {
-                undo(store, list, i);
+                undo(store, &list[..i]);
                 return Err(refusal);
             }
         }
@@ -113,6 +107,6 @@ pub fn apply<S: RangeStore>(
     if list.len() < n {
         return Err(Refusal::ShortList);
     }
-    apply_all(store, list, n)?;
+    apply_all(store, &mut list[..n])?;
     Ok(n)
 }

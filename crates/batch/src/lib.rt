@@ -3,7 +3,6 @@
 
 mod applying;
 mod change;
-mod places;
 mod staging;
 mod undoing;
 

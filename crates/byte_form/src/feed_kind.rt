@@ -6,7 +6,6 @@ ghost use Rattle.byte_form.specs.Bytes.{bytes_of, number_of};
 ghost use Rattle.std.proofs.Common.{arith, rules};
 ghost use Rattle.byte_form.specs.BytesLemmas.{read_back};
 
-use crate::big_endian;
 use address::{AddressKind, Ipv4, Ipv6, Port};
 
 /// A kind whose addresses have a byte form: the address's number in `width` bytes, the highest first.
@@ -22,6 +21,7 @@ pub trait FeedKind: AddressKind {
         ensures { option_map Self.AddressKind.num result ≡ number_of width bytes.now };
 
     /// Writes the address into a slice of `width` bytes. It writes nothing into another, and answers false.
+    // Whether it was written is all there is to tell: no error would say more.
     fn write_bytes(self, out: &mut [u8]) -> bool
         ensures answer { result ≡ (length out.old == width) }
         ensures after { out.new ≡ (if nat_eq (length out.old) width then bytes_of width (Self.AddressKind.num self) else out.old) };
@@ -35,6 +35,7 @@ pub trait FeedKind: AddressKind {
     ghost back: { (x : Self) → number_of width (bytes_of width (Self.AddressKind.num x)) ≡ Some (Self.AddressKind.num x) };
 }
 
+// Each kind writes its own integer, of another width: the trait and its laws are what they share.
 impl FeedKind for Port {
     ghost width = { 2 };
 
@@ -49,17 +50,16 @@ impl FeedKind for Port {
     }
 
     fn from_bytes(bytes: &[u8]) -> Option<Self> {
-        if bytes.len() != 2 {
-            return None;
-        }
-        Some(Port::new(big_endian::read(bytes) as u16))
+        let bytes = <[u8; 2]>::try_from(bytes).ok()?;
+        Some(Port::new(u16::from_be_bytes(bytes)))
     }
 
+    #[tactic(auto, unfolding(crate::specs::Bytes::bytes_of))]
     fn write_bytes(self, out: &mut [u8]) -> bool {
         if out.len() != 2 {
             return false;
         }
-        big_endian::write(u64::from(self.value()), out);
+        out.copy_from_slice(&self.value().to_be_bytes());
         true
     }
 }
@@ -78,17 +78,16 @@ impl FeedKind for Ipv4 {
     }
 
     fn from_bytes(bytes: &[u8]) -> Option<Self> {
-        if bytes.len() != 4 {
-            return None;
-        }
-        Some(Ipv4::new(big_endian::read(bytes) as u32))
+        let bytes = <[u8; 4]>::try_from(bytes).ok()?;
+        Some(Ipv4::new(u32::from_be_bytes(bytes)))
     }
 
+    #[tactic(auto, unfolding(crate::specs::Bytes::bytes_of))]
     fn write_bytes(self, out: &mut [u8]) -> bool {
         if out.len() != 4 {
             return false;
         }
-        big_endian::write(u64::from(self.value()), out);
+        out.copy_from_slice(&self.value().to_be_bytes());
         true
     }
 }
@@ -107,19 +106,15 @@ impl FeedKind for Ipv6 {
     }
 
     fn from_bytes(bytes: &[u8]) -> Option<Self> {
-        if bytes.len() != 16 {
-            return None;
-        }
-        let (high, low) = bytes.split_at(8);
-        Some(Ipv6::new(big_endian::read(high), big_endian::read(low)))
+        let bytes = <[u8; 16]>::try_from(bytes).ok()?;
+        Some(Ipv6::from(u128::from_be_bytes(bytes)))
     }
 
     fn write_bytes(self, out: &mut [u8]) -> bool {
         if out.len() != 16 {
             return false;
         }
-        big_endian::write(self.high(), &mut out[0..8]);
-        big_endian::write(self.low(), &mut out[8..16]);
+        out.copy_from_slice(&u128::from(self).to_be_bytes());
         true
     }
 }

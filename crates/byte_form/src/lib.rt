@@ -1,7 +1,6 @@
 //! The byte form of addresses, in which feeds carry them.
 #![tactic(auto)]
 
-mod big_endian;
 mod feed_kind;
 
 pub use feed_kind::FeedKind;

@@ -24,8 +24,12 @@ fn main(rt: HostRuntime) -> anyhow::Result<()> {
     }
     for line in BufReader::new(rt.alloc(), rt.stdin())?.lines(rt.alloc()) {
         let line = line?;
-        let verdict = verdict::classify(&table, line.as_str());
-        println!(rt; "{line}: {verdict}")?;
+        match verdict::classify(&table, line.as_str()) {
+            Ok((start, finish, hop)) => {
+                println!(rt; "{line}: {}-{} hop {hop}", start.value(), finish.value())?
+            }
+            Err(why) => println!(rt; "{line}: {why}")?,
+        }
     }
     Ok(())
 }

@@ -3,45 +3,44 @@
 ghost use Rattle.classify.specs.Verdicts.{Classified};
 
 use address::Port;
-use row_store::PortRow;
-use rules::Refusal;
+use rules::{RangeStore, Refusal};
 use std::fmt;
 use table::Table;
 
-/// The answer to one line.
-#[derive(Clone, Copy)]
-pub(crate) enum Verdict {
-    NoPort,
-    Looked(Result<(Port, Port, u16), Refusal>),
+/// Why a line has no service range.
+#[derive(Clone, Copy, PartialEq, Eq, Debug)]
+pub(crate) enum Unclassified {
+    NotAPort,
+    Refused(Refusal),
 }
 
-/// Reads the line as a port and looks it up.
-pub(crate) fn classify(table: &PortRow<'_>, line: &str) -> Verdict
-    ensures { Classified table.now line.now result }
-{
-    let Ok(number) = line.parse::<u16>() else {
-        return Verdict::NoPort;
-    };
-    Verdict::Looked(table.lookup(Port::new(number)))
+impl From<Refusal> for Unclassified {
+    ghost use Rattle.std.specs.Prelude.{◌≡◌};
+    ghost use Rattle.classify.specs.declared.verdict.Unclassified.TheVariants.{Refused};
+
+    ghost from_gives = { λ refusal why. why ≡ Refused refusal };
+
+    fn from(refusal: Refusal) -> Unclassified {
+        Unclassified::Refused(refusal)
+    }
 }
 
-impl fmt::Display for Verdict {
+impl fmt::Display for Unclassified {
     fn fmt<W: fmt::Write>(&self, f: &mut fmt::Formatter<W>) -> fmt::Result {
-        let looked = match *self {
-            Verdict::NoPort => return write!(f, "not a port"),
-            Verdict::Looked(looked) => looked,
-        };
-        match looked {
-            Ok(rule) => {
-                let start = rule.0.value();
-                let finish = rule.1.value();
-                let hop = rule.2;
-                write!(f, "{start}-{finish} hop {hop}")
-            }
-            Err(refusal) => {
-                let number = refusal.number();
-                write!(f, "refused with {number}")
-            }
+        match self {
+            Unclassified::NotAPort => write!(f, "not a port"),
+            Unclassified::Refused(refusal) => write!(f, "refused with {}", refusal.number()),
         }
     }
+}
+
+/// Reads the line as a port and looks it up: the start, the finish and the hop of its service range.
+pub(crate) fn classify<S: RangeStore<Kind = Port>>(
+    table: &S,
+    line: &str,
+) -> Result<(Port, Port, u16), Unclassified>
+    ensures { Classified (S.RangeStore.rules table.now) line.now result }
+{
+    let number = line.parse::<u16>().map_err(|_| Unclassified::NotAPort)?;
+    Ok(table.lookup(Port::new(number))?)
 }

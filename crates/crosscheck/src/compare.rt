@@ -1,154 +1,128 @@
 //! One call on both tables, and whether answers, ranges and hops agree.
 
-use crate::batches;
-use crate::plain::{Plain, PlainRule, SLOTS};
+use crate::plain::{Plain, PlainRule};
 use crate::random::Random;
 use crate::tally::{Call, Tally};
-use crate::world::World;
+use crate::world::{Updates, World};
 use address::Port;
 use rules::{RangeStore, Refusal};
 use table::Table;
 
-/// Both tables, and what was counted of them.
-pub(crate) fn run<S: RangeStore<Kind = Port>>(
-    table: &mut S,
-    plain: &mut Plain,
-    world: &World,
-    tally: &mut Tally,
-) {
-    let mut random = Random::new(world.seed);
-    for _ in 0..world.calls {
-        step(table, plain, world, &mut random, tally);
-        if !same_rules(table, plain) {
-            tally.differ();
-        }
-    }
-    for _ in 0..world.batches {
-        batches::step(table, plain, world, &mut random, tally);
-        if !same_rules(table, plain) {
-            tally.differ();
-        }
-    }
+/// A table with the plain table beside it, the world that their calls are drawn from, and what was counted.
+#[derive(Drop)]
+pub(crate) struct Run<'a, S> {
+    pub(crate) table: &'a mut S,
+    pub(crate) plain: Plain,
+    pub(crate) world: &'a World,
+    pub(crate) random: Random,
+    pub(crate) tally: &'a mut Tally,
 }
 
-/// Whether both hold the same ranges with the same hops: as many, and each of the plain ones.
-fn same_rules<S: RangeStore<Kind = Port>>(table: &S, plain: &Plain) -> bool {
-    for i in 0..SLOTS {
-        if let Some(rule) = plain.slot(i) {
-            if table.hop_of(Port::new(rule.start), Port::new(rule.finish)) != Some(rule.hop) {
-                return false;
+impl<'a, S: RangeStore<Kind = Port>> Run<'a, S> {
+    /// All calls of the world, and then its batches.
+    pub(crate) fn run(&mut self) {
+        for _ in 0..self.world.calls {
+            self.call();
+            self.compare_rules();
+        }
+        for _ in 0..self.world.batches {
+            self.batch();
+            self.compare_rules();
+        }
+    }
+
+    /// Counts a difference unless both hold the same ranges with the same hops: as many, and each of the plain ones.
+    fn compare_rules(&mut self) {
+        let table = &*self.table;
+        let all = self.plain.slots.iter().flatten().all(|rule| {
+            table.hop_of(Port::new(rule.start), Port::new(rule.finish)) == Some(rule.hop)
+        });
+        if !all || self.table.count() != self.plain.count() {
+            self.tally.differ();
+        }
+    }
+
+    /// One drawn call.
+    // One `match` over the turns: a table of closures would hide which turn makes which call.
+    fn call(&mut self) {
+        let turn = self.random.below(16);
+        let ends = self.world.ends(&mut self.random);
+        let hop = (self.random.below(9) & 0xff) as u16;
+        match turn {
+            0 if self.world.updates == Updates::Judged => self.make(hop),
+            0..=4 => self.look(ends.0),
+            5..=10 => self.insert(ends, hop),
+            _ => {
+                let ends = self.plain.held_or(&mut self.random, ends);
+                self.delete(ends);
             }
         }
     }
-    table.count() == plain.count()
-}
 
-fn step<S: RangeStore<Kind = Port>>(
-    table: &mut S,
-    plain: &mut Plain,
-    world: &World,
-    random: &mut Random,
-    tally: &mut Tally,
-) {
-    let turn = random.below(16);
-    let (start, finish) = world.ends(random);
-    let hop = (random.below(9) & 0xff) as u16;
-    if turn == 0 && !world.direct {
-        let answers = (table.make(hop), plain.make(hop));
-        note(tally, Call::Make, answers.0, answers.1);
-    } else if turn < 5 {
-        look(table, plain, start, tally);
-    } else if turn < 11 {
-        insert(table, plain, world.direct, (start, finish), hop, tally);
-    } else {
-        let ends = held_or(plain, random, (start, finish));
-        delete(table, plain, world.direct, ends, tally);
+    fn make(&mut self, hop: u16) {
+        let answer = self.table.make(hop);
+        let plain = self.plain.make(hop);
+        self.note(Call::Make, answer, plain);
+    }
+
+    fn insert(&mut self, ends: (u16, u16), hop: u16) {
+        let (start, finish) = (Port::new(ends.0), Port::new(ends.1));
+        match self.world.updates {
+            Updates::Direct => {
+                let answer = self.table.put(start, finish, hop);
+                let plain = self.plain.put(ends.0, ends.1, hop);
+                self.note(Call::Put, answer, plain);
+            }
+            Updates::Judged => {
+                let answer = self.table.add(start, finish, hop);
+                let plain = self.plain.add(ends.0, ends.1, hop);
+                self.note(Call::Add, answer, plain);
+            }
+        }
+    }
+
+    fn delete(&mut self, ends: (u16, u16)) {
+        let (start, finish) = (Port::new(ends.0), Port::new(ends.1));
+        match self.world.updates {
+            Updates::Direct => {
+                let answer = self.table.take(start, finish);
+                let plain = self.plain.take(ends.0, ends.1);
+                self.note(Call::Take, answer, plain);
+            }
+            Updates::Judged => {
+                let answer = self.table.remove(start, finish);
+                let plain = self.plain.remove(ends.0, ends.1);
+                self.note(Call::Remove, answer, plain);
+            }
+        }
+    }
+
+    pub(crate) fn note(
+        &mut self,
+        call: Call,
+        answer: Result<(), Refusal>,
+        plain: Result<(), Refusal>,
+    ) {
+        if answer != plain {
+            self.tally.differ();
+        }
+        self.tally.note(call, answer.err());
+    }
+
+    fn look(&mut self, d: u16) {
+        let answer = self.table.lookup(Port::new(d));
+        if answer.map(plain_rule) != self.plain.lookup(d) {
+            self.tally.differ();
+        }
+        self.tally.note(Call::Lookup, answer.err());
     }
 }
 
-/// Mostly a held range, so that removes are tried for what they leave.
-pub(crate) fn held_or(plain: &Plain, random: &mut Random, ends: (u16, u16)) -> (u16, u16) {
-    if random.one_in(4) {
-        return ends;
-    }
-    let slot = random.below(16) as usize;
-    match plain.slot(slot) {
-        Some(rule) => (rule.start, rule.finish),
-        None => ends,
-    }
-}
-
-fn insert<S: RangeStore<Kind = Port>>(
-    table: &mut S,
-    plain: &mut Plain,
-    direct: bool,
-    ends: (u16, u16),
-    hop: u16,
-    tally: &mut Tally,
-) {
-    let start = Port::new(ends.0);
-    let finish = Port::new(ends.1);
-    if direct {
-        let answer = table.put(start, finish, hop);
-        note(tally, Call::Put, answer, plain.put(ends.0, ends.1, hop));
-    } else {
-        let answer = table.add(start, finish, hop);
-        note(tally, Call::Add, answer, plain.add(ends.0, ends.1, hop));
-    }
-}
-
-fn delete<S: RangeStore<Kind = Port>>(
-    table: &mut S,
-    plain: &mut Plain,
-    direct: bool,
-    ends: (u16, u16),
-    tally: &mut Tally,
-) {
-    let start = Port::new(ends.0);
-    let finish = Port::new(ends.1);
-    if direct {
-        let answer = table.take(start, finish);
-        note(tally, Call::Take, answer, plain.take(ends.0, ends.1));
-    } else {
-        let answer = table.remove(start, finish);
-        note(tally, Call::Remove, answer, plain.remove(ends.0, ends.1));
-    }
-}
-
-pub(crate) fn note(
-    tally: &mut Tally,
-    call: Call,
-    answer: Result<(), Refusal>,
-    plain: Result<(), Refusal>,
-) {
-    if answer != plain {
-        tally.differ();
-    }
-    tally.note(call, answer.err());
-}
-
-fn look<S: RangeStore<Kind = Port>>(table: &S, plain: &Plain, d: u16, tally: &mut Tally) {
-    let answer = table.lookup(Port::new(d));
-    let same = match answer {
-        Ok(rule) => found(plain.lookup(d), rule.0.value(), rule.1.value(), rule.2),
-        Err(refusal) => refused(plain.lookup(d), refusal),
-    };
-    if !same {
-        tally.differ();
-    }
-    tally.note(Call::Lookup, answer.err());
-}
-
-fn found(plain: Result<PlainRule, Refusal>, start: u16, finish: u16, hop: u16) -> bool {
-    match plain {
-        Ok(rule) => rule.start == start && rule.finish == finish && rule.hop == hop,
-        Err(_) => false,
-    }
-}
-
-fn refused(plain: Result<PlainRule, Refusal>, refusal: Refusal) -> bool {
-    match plain {
-        Ok(_) => false,
-        Err(other) => other == refusal,
+/// What a lookup answers as a plain rule, so that numbers are compared.
+fn plain_rule((start, finish, hop): (Port, Port, u16)) -> PlainRule {
+    PlainRule {
+        start: start.value(),
+        finish: finish.value(),
+        hop,
     }
 }

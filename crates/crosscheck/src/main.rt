@@ -9,14 +9,33 @@ mod tally;
 mod world;
 
 use address::{Mirror, Port};
+use compare::Run;
 use plain::Plain;
+use random::Random;
 use row_store::PortRow;
-use rules::Rule;
+use rules::{RangeStore, Rule};
 use std::io;
 use tally::Tally;
 use tree::Node;
 use tree_store::PortTree;
 use world::{WORLDS, World};
+
+/// Runs one world over a table of this many places.
+fn visit<S: RangeStore<Kind = Port>>(
+    table: &mut S,
+    places: usize,
+    world: &World,
+    tally: &mut Tally,
+) {
+    let mut run = Run {
+        table,
+        plain: Plain::new(places),
+        world,
+        random: Random::new(world.seed),
+        tally,
+    };
+    run.run();
+}
 
 /// Runs one world over a row store of its capacity.
 fn visit_row(world: &World, tally: &mut Tally) {
@@ -28,8 +47,7 @@ fn visit_row(world: &World, tally: &mut Tally) {
     let mut row = [blank; 16];
     let places = world.capacity.min(16);
     let mut table = PortRow::new(&mut row[0..places]);
-    let mut plain = Plain::new(places);
-    compare::run(&mut table, &mut plain, world, tally);
+    visit(&mut table, places, world, tally);
 }
 
 /// Runs the same calls over a tree store of its capacity.
@@ -38,8 +56,7 @@ fn visit_tree(world: &World, tally: &mut Tally) {
     let mut mirrored = [Node::blank(Mirror::of(Port::new(7))); 16];
     let places = world.capacity.min(16);
     let mut table = PortTree::new(&mut nodes[0..places], &mut mirrored);
-    let mut plain = Plain::new(places);
-    compare::run(&mut table, &mut plain, world, tally);
+    visit(&mut table, places, world, tally);
 }
 
 fn main(rt: HostRuntime) -> io::Result<()> {

@@ -1,13 +1,15 @@
 //! A deliberately plain table of ports: rules in no order, and every address tried in turn.
 
+use crate::random::Random;
 use address::Port;
 use batch::{Change, Staged};
 use rules::Refusal;
 
 /// How many rules a plain table can hold at most.
-pub(crate) const SLOTS: usize = 16;
+const SLOTS: usize = 16;
 
-#[derive(Clone, Copy)]
+// The other crosscheck has a rule like it: each stands alone, so that no mistake is in both.
+#[derive(Clone, Copy, PartialEq, Eq)]
 pub(crate) struct PlainRule {
     pub(crate) start: u16,
     pub(crate) finish: u16,
@@ -30,7 +32,7 @@ impl PlainRule {
 
 #[derive(Clone, Copy)]
 pub(crate) struct Plain {
-    slots: [Option<PlainRule>; 16],
+    pub(crate) slots: [Option<PlainRule>; 16],
     capacity: usize,
 }
 
@@ -42,43 +44,31 @@ impl Plain {
         }
     }
 
-    pub(crate) fn slot(&self, i: usize) -> Option<PlainRule> {
-        if i < SLOTS { self.slots[i] } else { None }
-    }
-
     pub(crate) fn count(&self) -> usize {
-        let mut n: usize = 0;
-        for i in 0..SLOTS {
-            if self.slot(i).is_some() {
-                n = n.saturating_add(1);
-            }
-        }
-        n
+        self.slots.iter().flatten().count()
     }
 
-    fn find(&self, start: u16, finish: u16) -> Option<usize> {
-        for i in 0..SLOTS {
-            if let Some(rule) = self.slot(i) {
-                if rule.is_range(start, finish) {
-                    return Some(i);
-                }
-            }
+    /// Mostly a held range, so that removes are tried for what they leave.
+    pub(crate) fn held_or(&self, random: &mut Random, ends: (u16, u16)) -> (u16, u16) {
+        if random.one_in(4) {
+            return ends;
         }
-        None
+        let slot = random.below(16) as usize;
+        match self.slots.get(slot).copied().flatten() {
+            Some(rule) => (rule.start, rule.finish),
+            None => ends,
+        }
     }
 
-    fn free(&self) -> Option<usize> {
-        for i in 0..SLOTS {
-            if self.slot(i).is_none() {
-                return Some(i);
-            }
-        }
-        None
+    /// The slot of a range that is held.
+    // `start` and `finish` stand alone in these calls, as they do in those that they are held to.
+    fn slot_of(&self, start: u16, finish: u16) -> Option<usize> {
+        self.slots.iter().position(|slot| slot.is_some_and(|rule| rule.is_range(start, finish)))
     }
 
-    fn set(&mut self, i: usize, rule: Option<PlainRule>) {
-        if i < SLOTS {
-            self.slots[i] = rule;
+    fn set(&mut self, slot: usize, rule: Option<PlainRule>) {
+        if let Some(place) = self.slots.get_mut(slot) {
+            *place = rule;
         }
     }
 
@@ -86,15 +76,14 @@ impl Plain {
         if start > finish {
             return Err(Refusal::Backwards);
         }
-        let held = self.find(start, finish);
+        let held = self.slot_of(start, finish);
         if held.is_none() && self.count() >= self.capacity {
             return Err(Refusal::Full);
         }
-        let place = match held {
-            Some(i) => i,
-            None => self.free().unwrap_or(0),
-        };
-        self.set(place, Some(PlainRule { start, finish, hop }));
+        let free = self.slots.iter().position(|slot| slot.is_none());
+        if let Some(slot) = held.or(free) {
+            self.set(slot, Some(PlainRule { start, finish, hop }));
+        }
         Ok(())
     }
 
@@ -102,55 +91,33 @@ impl Plain {
         if start > finish {
             return Err(Refusal::Backwards);
         }
-        let Some(i) = self.find(start, finish) else {
-            return Err(Refusal::NotHeld);
-        };
-        self.set(i, None);
+        let slot = self.slot_of(start, finish).ok_or(Refusal::NotHeld)?;
+        self.set(slot, None);
         Ok(())
     }
 
     fn covered(&self, d: u16) -> bool {
-        for i in 0..SLOTS {
-            if let Some(rule) = self.slot(i) {
-                if rule.covers(d) {
-                    return true;
-                }
-            }
-        }
-        false
+        self.slots.iter().flatten().any(|rule| rule.covers(d))
     }
 
     fn inside_all_at(&self, rule: &PlainRule, d: u16) -> bool {
-        for i in 0..SLOTS {
-            if let Some(other) = self.slot(i) {
-                if other.covers(d) && !rule.is_inside(&other) {
-                    return false;
-                }
-            }
-        }
-        true
+        self.slots
+            .iter()
+            .flatten()
+            .all(|other| !other.covers(d) || rule.is_inside(other))
     }
 
     fn most_specific(&self, d: u16) -> Option<PlainRule> {
-        for i in 0..SLOTS {
-            if let Some(rule) = self.slot(i) {
-                if rule.covers(d) && self.inside_all_at(&rule, d) {
-                    return Some(rule);
-                }
-            }
-        }
-        None
+        self.slots
+            .iter()
+            .flatten()
+            .find(|rule| rule.covers(d) && self.inside_all_at(rule, d))
+            .copied()
     }
 
     /// Tries every address from `start` to `finish`.
-    pub(crate) fn resolved(&self, start: u16, finish: u16) -> bool {
-        for d in u32::from(start)..u32::from(finish) + 1 {
-            let d = (d & 0xffff) as u16;
-            if self.covered(d) && self.most_specific(d).is_none() {
-                return false;
-            }
-        }
-        true
+    fn resolved(&self, start: u16, finish: u16) -> bool {
+        (start..=finish).all(|d| !self.covered(d) || self.most_specific(d).is_some())
     }
 
     pub(crate) fn make(&mut self, hop: u16) -> Result<(), Refusal> {
@@ -162,7 +129,7 @@ impl Plain {
 
     pub(crate) fn add(&mut self, start: u16, finish: u16, hop: u16) -> Result<(), Refusal> {
         let before = *self;
-        let held = self.find(start, finish).is_some();
+        let held = self.slot_of(start, finish).is_some();
         self.put(start, finish, hop)?;
         if !held && !self.resolved(start, finish) {
             *self = before;
@@ -196,22 +163,26 @@ impl Plain {
         }
     }
 
-    /// The first `n` changes in turn, then every address of all.
+    /// The changes in turn, then every address of all.
+    fn change_all(&mut self, list: &[Staged<Port>]) -> Result<(), Refusal> {
+        for staged in list {
+            self.change(&staged.change)?;
+        }
+        if self.resolved(0, u16::MAX) {
+            Ok(())
+        } else {
+            Err(Refusal::Conflict)
+        }
+    }
+
+    /// The first `n` changes, all or none.
+    // A batch tells no count, so the check hands its own on.
     pub(crate) fn commit(&mut self, n: usize, list: &[Staged<Port>]) -> Result<usize, Refusal> {
-        if list.len() < n {
-            return Err(Refusal::ShortList);
-        }
+        let first = list.get(..n).ok_or(Refusal::ShortList)?;
         let before = *self;
-        for i in 0..n {
-            let staged = &list[i];
-            if let Err(refusal) = self.change(&staged.change) {
-                *self = before;
-                return Err(refusal);
-            }
-        }
-        if !self.resolved(0, u16::MAX) {
+        if let Err(refusal) = self.change_all(first) {
             *self = before;
-            return Err(Refusal::Conflict);
+            return Err(refusal);
         }
         Ok(n)
     }

@@ -1,7 +1,7 @@
 //! How many calls were compared, by kind and by refusal, and how many differed.
 
 use rules::Refusal;
-use std::io;
+use std::{fmt, io};
 
 /// The kinds of calls that are compared.
 #[derive(Clone, Copy)]
@@ -17,6 +17,39 @@ pub(crate) enum Call {
     Commit,
 }
 
+impl Call {
+    /// Every kind, in the order in which it counts.
+    const ALL: [Call; 9] = [
+        Call::Make,
+        Call::Add,
+        Call::Remove,
+        Call::Lookup,
+        Call::Put,
+        Call::Take,
+        Call::Stage,
+        Call::Abandon,
+        Call::Commit,
+    ];
+}
+
+impl fmt::Display for Call {
+    fn fmt<W: fmt::Write>(&self, f: &mut fmt::Formatter<W>) -> fmt::Result {
+        f.write_str(match *self {
+            Call::Make => "make",
+            Call::Add => "add",
+            Call::Remove => "remove",
+            Call::Lookup => "lookup",
+            Call::Put => "put",
+            Call::Take => "take",
+            Call::Stage => "stage",
+            Call::Abandon => "abandon",
+            Call::Commit => "commit",
+        })
+    }
+}
+
+/// Counts by kind of call, in the order of `Call::ALL`, and by number of refusal, as they are printed; no refusal has the number 0.
+// The other crosscheck counts other kinds: a crate for the two lines that are alike would be no plainer.
 #[derive(Drop)]
 pub(crate) struct Tally {
     calls: [u32; 9],
@@ -24,17 +57,10 @@ pub(crate) struct Tally {
     differences: u32,
 }
 
-fn label(call: usize) -> &'static str {
-    match call {
-        0 => "make",
-        1 => "add",
-        2 => "remove",
-        3 => "lookup",
-        4 => "put",
-        5 => "take",
-        6 => "stage",
-        7 => "abandon",
-        _ => "commit",
+/// One more at a place, if there is such a place.
+fn count_at(counts: &mut [u32], place: usize) {
+    if let Some(n) = counts.get_mut(place) {
+        *n = n.saturating_add(1);
     }
 }
 
@@ -49,15 +75,9 @@ impl Tally {
 
     /// One more call of this kind, with the refusal that both tables gave, if any.
     pub(crate) fn note(&mut self, call: Call, refusal: Option<Refusal>) {
-        let i = call as usize;
-        if i < 9 {
-            self.calls[i] = self.calls[i].saturating_add(1);
-        }
+        count_at(&mut self.calls, call as usize);
         if let Some(refusal) = refusal {
-            let n = usize::from(refusal.number());
-            if n < 17 {
-                self.refusals[n] = self.refusals[n].saturating_add(1);
-            }
+            count_at(&mut self.refusals, usize::from(refusal.number()));
         }
     }
 
@@ -67,16 +87,13 @@ impl Tally {
 
     pub(crate) fn print(&self, rt: &impl Print) -> io::Result<()> {
         let mut total: u32 = 0;
-        for i in 0..9 {
-            let name = label(i);
-            let n = self.calls[i];
-            total = total.saturating_add(n);
-            println!(rt; "{name}: {n}")?;
+        for (call, n) in Call::ALL.iter().zip(&self.calls) {
+            total = total.saturating_add(*n);
+            println!(rt; "{call}: {n}")?;
         }
-        for i in 1..17 {
-            let n = self.refusals[i];
-            if n > 0 {
-                println!(rt; "refusal {i}: {n}")?;
+        for (number, n) in self.refusals.iter().enumerate() {
+            if *n > 0 {
+                println!(rt; "refusal {number}: {n}")?;
             }
         }
         let differences = self.differences;

@@ -2,6 +2,15 @@
 
 use crate::random::Random;
 
+/// How updates reach the store.
+#[derive(Clone, Copy, PartialEq, Eq)]
+pub(crate) enum Updates {
+    /// By adds and removes of a table.
+    Judged,
+    /// By direct puts and takes, with no table made.
+    Direct,
+}
+
 #[derive(Clone, Copy)]
 pub(crate) struct World {
     pub(crate) name: &'static str,
@@ -10,8 +19,7 @@ pub(crate) struct World {
     pub(crate) low: u16,
     pub(crate) span: u16,
     pub(crate) capacity: usize,
-    /// Whether updates are direct puts and takes, with no table made.
-    pub(crate) direct: bool,
+    pub(crate) updates: Updates,
     pub(crate) calls: u32,
     /// How many batches are staged after these calls.
     pub(crate) batches: u32,
@@ -24,7 +32,7 @@ pub(crate) const WORLDS: [World; 7] = [
         low: 100,
         span: 24,
         capacity: 14,
-        direct: false,
+        updates: Updates::Judged,
         calls: 30000,
         batches: 700,
     },
@@ -34,7 +42,7 @@ pub(crate) const WORLDS: [World; 7] = [
         low: 65520,
         span: 16,
         capacity: 14,
-        direct: false,
+        updates: Updates::Judged,
         calls: 12000,
         batches: 300,
     },
@@ -44,7 +52,7 @@ pub(crate) const WORLDS: [World; 7] = [
         low: 0,
         span: 16,
         capacity: 14,
-        direct: false,
+        updates: Updates::Judged,
         calls: 12000,
         batches: 300,
     },
@@ -54,7 +62,7 @@ pub(crate) const WORLDS: [World; 7] = [
         low: 10,
         span: 12,
         capacity: 2,
-        direct: false,
+        updates: Updates::Judged,
         calls: 6000,
         batches: 200,
     },
@@ -64,7 +72,7 @@ pub(crate) const WORLDS: [World; 7] = [
         low: 10,
         span: 12,
         capacity: 0,
-        direct: false,
+        updates: Updates::Judged,
         calls: 200,
         batches: 20,
     },
@@ -74,7 +82,7 @@ pub(crate) const WORLDS: [World; 7] = [
         low: 10,
         span: 16,
         capacity: 10,
-        direct: true,
+        updates: Updates::Direct,
         calls: 12000,
         batches: 200,
     },
@@ -84,7 +92,7 @@ pub(crate) const WORLDS: [World; 7] = [
         low: 0,
         span: 65535,
         capacity: 8,
-        direct: false,
+        updates: Updates::Judged,
         calls: 6000,
         batches: 100,
     },

@@ -7,6 +7,7 @@ mod tally;
 mod world;
 
 use address::Ipv4;
+use compare::Check;
 use plain::PlainRule;
 use row_store::Ipv4Row;
 use rules::{RangeStore, Rule};
@@ -29,8 +30,13 @@ fn visit(rules: &[PlainRule], tally: &mut Tally) {
             tally.differ();
         }
     }
-    compare::questions(&table, rules, tally);
-    compare::rows(&table, rules, tally);
+    let mut check = Check {
+        table: &table,
+        rules,
+        tally,
+    };
+    check.questions();
+    check.rows();
 }
 
 fn main(rt: HostRuntime) -> io::Result<()> {

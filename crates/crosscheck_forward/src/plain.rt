@@ -3,7 +3,8 @@
 use rules::Refusal;
 
 /// Addresses from `start` to `finish` go out on the line `hop`.
-#[derive(Clone, Copy)]
+// The other crosscheck has a rule like it: each stands alone, so that no mistake is in both.
+#[derive(Clone, Copy, PartialEq, Eq)]
 pub(crate) struct PlainRule {
     pub(crate) start: u32,
     pub(crate) finish: u32,
@@ -38,37 +39,25 @@ pub(crate) fn blocked(d: u32) -> bool {
 
 /// Whether every rule that covers `d` has `rule` inside it.
 fn inside_all(rules: &[PlainRule], rule: &PlainRule, d: u32) -> bool {
-    for other in rules {
-        if other.covers(d) && !rule.is_inside(other) {
-            return false;
-        }
-    }
-    true
+    rules
+        .iter()
+        .all(|other| !other.covers(d) || rule.is_inside(other))
 }
 
 /// The rule that covers `d` and lies inside every other that does.
 pub(crate) fn lookup(rules: &[PlainRule], d: u32) -> Result<PlainRule, Refusal> {
-    let mut refusal = Refusal::Uncovered;
-    for rule in rules {
-        if rule.covers(d) {
-            if inside_all(rules, rule, d) {
-                return Ok(*rule);
-            }
-            refusal = Refusal::Ambiguous;
-        }
+    if !rules.iter().any(|rule| rule.covers(d)) {
+        return Err(Refusal::Uncovered);
     }
-    Err(refusal)
-}
-
-/// The hop of a destination, or 0 where its lookup refuses.
-fn hop(rules: &[PlainRule], d: u32) -> u16 {
-    match lookup(rules, d) {
-        Ok(rule) => rule.hop,
-        Err(_) => 0,
-    }
+    rules
+        .iter()
+        .find(|rule| rule.covers(d) && inside_all(rules, rule, d))
+        .copied()
+        .ok_or(Refusal::Ambiguous)
 }
 
 /// What a row of lookups is answered: the place of the first destination that is refused.
+// A number of places and no row: nothing is written here.
 pub(crate) fn row(
     rules: &[PlainRule],
     destinations: &[u32],
@@ -77,15 +66,12 @@ pub(crate) fn row(
     if places < destinations.len() {
         return Err(Refusal::ShortBuffer);
     }
-    for (i, d) in destinations.iter().enumerate() {
-        if lookup(rules, *d).is_err() {
-            return Ok(i);
-        }
-    }
-    Ok(destinations.len())
+    let refused = destinations.iter().position(|d| lookup(rules, *d).is_err());
+    Ok(refused.unwrap_or(destinations.len()))
 }
 
 /// The hops after a row of lookups of which the first `k` are written.
+// `k` is what the table answered, and may be wrong.
 pub(crate) fn hops(
     rules: &[PlainRule],
     destinations: &[u32],
@@ -93,10 +79,8 @@ pub(crate) fn hops(
     before: [u16; 8],
 ) -> [u16; 8] {
     let mut after = before;
-    for (i, d) in destinations.iter().enumerate() {
-        if i < k && i < 8 {
-            after[i] = hop(rules, *d);
-        }
+    for (hop, d) in after.iter_mut().zip(destinations).take(k) {
+        *hop = lookup(rules, *d).map_or(0, |rule| rule.hop);
     }
     after
 }

@@ -58,7 +58,7 @@ took_back : {X : Type 0} (n : ℕ) (bs : List ℕ) (next : ℕ → List ℕ → 
 took_back n bs next v u e = go (ltb (length bs) n) refl e
   where
     go : (b : Bool) → ltb (length bs) n ≡ b → cond b (Err FeedEnds) (next (number_from_digits 256 (take n bs)) (drop n bs)) ≡ Ok v → Back n bs next v
-    go true t f = let z : ◌≡◌ {A = ℕ} 0 1 = cc in absurd (omega arith)
+    go true t f = cc
     go false t f =
         let l : length (take n bs) ≡ n = length-take-le n bs (ltb-false (length bs) n t) in
         let q = All-take (λ d. d < 256) n bs u in
@@ -111,8 +111,8 @@ head_back w body v u e = let n = took_back 1 body counted v u e in go n (leb 1 n
     go : (n : Back 1 body counted v) (a b : Bool) → leb 1 n.x ≡ a → leb n.x 64 ≡ b → ◌≡◌ {A = Part (Record ℕ)} (cond (a && b) (pair (Batch n.x)) (λ rest. Err BadCount) n.more) (Ok v) → Own w 0x04 body v
     go n true true p q f =
         same w 0x04 body _ v f ((leb-true 1 n.x p, leb-true n.x 64 q), ap (λ bs. 0x04 ∷ bs) n.bytes)
-    go n true false p q f = let z : ◌≡◌ {A = ℕ} 0 1 = cc in absurd (omega arith)
-    go n false b p q f = let z : ◌≡◌ {A = ℕ} 0 1 = cc in absurd (omega arith)
+    go n true false p q f = cc
+    go n false b p q f = cc
 
 body_back : (w kind : ℕ) (body : List ℕ) (v : Record ℕ × List ℕ) → AllBelowBase 256 body → decode_kind w kind body ≡ Ok v → Own w kind body v
 body_back w kind body v u e = one (eqb kind 0x01) refl e
@@ -122,7 +122,7 @@ body_back w kind body v u e = one (eqb kind 0x01) refl e
 
     four : (b : Bool) → eqb kind 0x04 ≡ b → cond b (decode_head body) (Err UnknownRecord) ≡ Ok v → Own w kind body v
     four true p f = at 0x04 p (head_back w body v u f)
-    four false p f = let z : ◌≡◌ {A = ℕ} 0 1 = cc in absurd (omega arith)
+    four false p f = cc
 
     three : (b : Bool) → eqb kind 0x03 ≡ b → cond b (decode_lookup w body) (cond (eqb kind 0x04) (decode_head body) (Err UnknownRecord)) ≡ Ok v → Own w kind body v
     three true p f = at 0x03 p (lookup_back w body v u f)
@@ -137,9 +137,9 @@ body_back w kind body v u e = one (eqb kind 0x01) refl e
     one false p f = two (eqb kind 0x02) refl f
 
 pub decoded : DecodedLaw
-decoded w [] r rest u e = let z : ◌≡◌ {A = ℕ} 0 1 = cc in absurd (omega arith)
+decoded w [] r rest u e = cc
 decoded w (kind ∷ body) r rest u e = go (decode_kind w kind body) refl e
   where
     go : (p : Part (Record ℕ)) → decode_kind w kind body ≡ p → ◌≡◌ {A = Read (Record ℕ × List ℕ)} (some_read p) (Ok (Some (r, rest))) → Own w kind body (r, rest)
     go (Ok v) d f = let q : v ≡ (r, rest) = cc in body_back w kind body (r, rest) u.1 (d ∙ ap Ok q)
-    go (Err x) d f = let z : ◌≡◌ {A = ℕ} 0 1 = cc in absurd (omega arith)
+    go (Err x) d f = cc

@@ -1,8 +1,8 @@
 -- A run takes its bytes apart, and goes on record by record.
-use Rattle.std.proofs.Common.{◌≡◌, ℕ, zero, suc, ◌<◌, ◌≤◌, List, [], ◌∷◌, ◌++◌, length, Some, None, Ok, Err, Result, sym, refl, ap, ◌∙◌, subst, append_assoc, arith}
+use Rattle.std.proofs.Common.{◌≡◌, ℕ, zero, suc, ◌<◌, ◌≤◌, List, [], ◌∷◌, ◌++◌, length, Some, None, Ok, Err, Result, sym, refl, ap, ◌∙◌, subst, append_assoc, arith, get_or, Fits, w8}
 use Rattle.std.specs.List.{flat_map}
 use Rattle.std.specs.Int.Digits.{AllBelowBase}
-use Rattle.std.proofs.ByRecursion.{All-drop}
+use Rattle.std.proofs.ByRecursion.{All-drop, All-from_get_or}
 use Rattle.std.proofs.lemmas.List.{nil_from_length}
 use Rattle.rules.specs.declared.refusal.Refusal.{Refusal}
 use Rattle.feed.specs.declared.record.Record.{Record}
@@ -20,8 +20,8 @@ end_empty w [] e = refl
 end_empty w (kind ∷ body) e = go (decode_kind w kind body) e
   where
     go : (p : Part (Record ℕ)) → ◌≡◌ {A = Read (Record ℕ × List ℕ)} (some_read p) (Ok None) → [] ≡ (kind ∷ body)
-    go (Ok v) f = let z : ◌≡◌ {A = ℕ} 0 1 = cc in absurd (omega arith)
-    go (Err x) f = let z : ◌≡◌ {A = ℕ} 0 1 = cc in absurd (omega arith)
+    go (Ok v) f = cc
+    go (Err x) f = cc
 
 -- any number of turns that is enough gives the same run
 pub enough_turns : (w n m : ℕ) (bs : List ℕ) → length bs ≤ n → length bs ≤ m → run_for w n bs ≡ run_for w m bs
@@ -39,7 +39,7 @@ enough_turns w (suc n) (suc m) bs h k = go (decode w bs) refl (enough_turns w n 
 -- the run where a record is next
 pub run_next : (w : ℕ) (bs : List ℕ) (r : Record ℕ) (rest : List ℕ) → decode w bs ≡ Ok (Some (r, rest)) → run w bs ≡ after r (run w rest)
 unfolding run_for
-run_next w [] r rest e = let z : ◌≡◌ {A = ℕ} 0 1 = cc in absurd (omega arith)
+run_next w [] r rest e = cc
 run_next w (kind ∷ body) r rest e =
     let l = decode_shorter w (kind ∷ body) r rest (sym e) in
     ap (λ d. run_on (kind ∷ body) d (run_for w (length body))) e ∙ ap (after r) (enough_turns w (length body) (length rest) rest (omega arith) (omega arith))
@@ -51,7 +51,7 @@ run_ends w bs e = subst (λ xs. run w xs ≡ stopped xs (Ok tt)) (end_empty w bs
 
 pub run-refused : (w : ℕ) (bs : List ℕ) (x : Refusal) → decode w bs ≡ Err x → run w bs ≡ stopped bs (Err x)
 unfolding run_for
-run-refused w [] x e = let z : ◌≡◌ {A = ℕ} 0 1 = cc in absurd (omega arith)
+run-refused w [] x e = cc
 run-refused w (kind ∷ body) x e = ap (λ d. run_on (kind ∷ body) d (run_for w (length body))) e
 
 apart_for : (w n : ℕ) (bs : List ℕ) → length bs ≤ n → AllBelowBase 256 bs → Apart w bs (run_for w n bs)
@@ -73,10 +73,14 @@ apart_for w (suc n) bs h u = go (decode w bs) refl (apart_for w n)
           formed = (d.0, a.formed);
           whole = λ k. ap (λ xs. encode w r ++ xs) (a.whole k) ∙ sym d.1;
         }
-    go (Err x) e ih = record { bytes = refl; formed = tt; whole = λ t. let z : ◌≡◌ {A = ℕ} 0 1 = cc in absurd (omega arith) }
+    go (Err x) e ih = record { bytes = refl; formed = tt; whole = λ t. cc }
 
 pub apart : ApartLaw
 apart w feed u = apart_for w (length feed) feed (omega arith) u
+
+-- a feed in memory is bytes
+pub apart_bytes : (w : ℕ) (feed : List ℕ) → ((i : ℕ) → Fits w8 (get_or feed i 0)) → Apart w feed (run w feed)
+apart_bytes w feed u = apart w feed (All-from_get_or (λ b. b < 256) feed 0 (λ i h. omega (arith, u i)))
 
 -- of a reader at `bs` that tells a record: what it leaves gives the rest of the run
 pub record On (w : ℕ) (bs : List ℕ) : Type 0 where
@@ -88,7 +92,7 @@ pub told-some : (w place : ℕ) (bs : List ℕ) (p : ℕ × Record ℕ) → ◌�
 told-some w place bs p f = go (decode w bs) refl f
   where
     go : (d : Read (Record ℕ × List ℕ)) → decode w bs ≡ d → ◌≡◌ {A = Read (ℕ × Record ℕ)} (Ok (Some p)) (placed place d) → On w bs
-    go (Ok None) e f = let z : ◌≡◌ {A = ℕ} 0 1 = cc in absurd (omega arith)
+    go (Ok None) e f = cc
     go (Ok (Some (r, rest))) e f =
         let l : left bs (decode w bs) ≡ rest = ap (left bs) e in
         let t : run w bs ≡ after r (run w rest) = run_next w bs r rest e in
@@ -97,7 +101,7 @@ told-some w place bs p f = go (decode w bs) refl f
           end = ap (λ xs. (run w xs).end) l ∙ ap (λ (t : Run). t.end) (sym t);
           rest = ap (λ xs. (run w xs).left) l ∙ ap (λ (t : Run). t.left) (sym t);
         }
-    go (Err x) e f = let z : ◌≡◌ {A = ℕ} 0 1 = cc in absurd (omega arith)
+    go (Err x) e f = cc
 
 -- of one that tells none, or refuses: that ends the run
 pub record Off (w : ℕ) (bs : List ℕ) (r : Result (Unit {0}) Refusal) : Type 0 where
@@ -111,15 +115,15 @@ told_none w place bs f = go (decode w bs) refl f
     go (Ok None) e f =
         let t = run_ends w bs e in
         record { end = ap (λ (t : Run). t.end) (sym t); rest = ap (left bs) e ∙ ap (λ (t : Run). t.left) (sym t) }
-    go (Ok (Some (r, rest))) e f = let z : ◌≡◌ {A = ℕ} 0 1 = cc in absurd (omega arith)
-    go (Err x) e f = let z : ◌≡◌ {A = ℕ} 0 1 = cc in absurd (omega arith)
+    go (Ok (Some (r, rest))) e f = cc
+    go (Err x) e f = cc
 
 pub told_refusal : (w place : ℕ) (bs : List ℕ) (x : Refusal) → ◌≡◌ {A = Read (ℕ × Record ℕ)} (Err x) (placed place (decode w bs)) → Off w bs (Err x)
 told_refusal w place bs x f = go (decode w bs) refl f
   where
     go : (d : Read (Record ℕ × List ℕ)) → decode w bs ≡ d → ◌≡◌ {A = Read (ℕ × Record ℕ)} (Err x) (placed place d) → Off w bs (Err x)
-    go (Ok None) e f = let z : ◌≡◌ {A = ℕ} 0 1 = cc in absurd (omega arith)
-    go (Ok (Some (r, rest))) e f = let z : ◌≡◌ {A = ℕ} 0 1 = cc in absurd (omega arith)
+    go (Ok None) e f = cc
+    go (Ok (Some (r, rest))) e f = cc
     go (Err y) e f =
         let q : x ≡ y = cc in
         let t = run-refused w bs y e in

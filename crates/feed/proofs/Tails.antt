@@ -49,22 +49,22 @@ body_leaves w kind body =
     (pick (eqb kind 0x04) body _ (Err UnknownRecord) (taking_leaves 1 body _ counted_leaves) tt)))
 
 pub decode_leaves : (w : ℕ) (bs : List ℕ) (r : Record ℕ) (rest : List ℕ) → ◌≡◌ {A = Read (Record ℕ × List ℕ)} (Ok (Some (r, rest))) (decode w bs) → Tail bs rest
-decode_leaves w [] r rest e = let z : ◌≡◌ {A = ℕ} 0 1 = cc in absurd (omega arith)
+decode_leaves w [] r rest e = cc
 decode_leaves w (kind ∷ body) r rest e = go (decode_kind w kind body) (body_leaves w kind body) e
   where
     go : (p : Part (Record ℕ)) → Leaves body p → ◌≡◌ {A = Read (Record ℕ × List ℕ)} (Ok (Some (r, rest))) (some_read p) → Tail (kind ∷ body) rest
     go (Ok p) t f = let q : ◌≡◌ {A = Record ℕ × List ℕ} (r, rest) p = cc in (suc t.0, (omega (arith, t.1.0), ap (λ (x : Record ℕ × List ℕ). x.1) q ∙ t.1.1))
-    go (Err e) t f = let z : ◌≡◌ {A = ℕ} 0 1 = cc in absurd (omega arith)
+    go (Err e) t f = cc
 
 pub decode_shorter : (w : ℕ) (bs : List ℕ) (r : Record ℕ) (rest : List ℕ) → ◌≡◌ {A = Read (Record ℕ × List ℕ)} (Ok (Some (r, rest))) (decode w bs) → length rest < length bs
-decode_shorter w [] r rest e = let z : ◌≡◌ {A = ℕ} 0 1 = cc in absurd (omega arith)
+decode_shorter w [] r rest e = cc
 decode_shorter w (kind ∷ body) r rest e = go (decode_kind w kind body) (body_leaves w kind body) e
   where
     go : (p : Part (Record ℕ)) → Leaves body p → ◌≡◌ {A = Read (Record ℕ × List ℕ)} (Ok (Some (r, rest))) (some_read p) → length rest < suc (length body)
     go (Ok p) t f =
         let q : ◌≡◌ {A = Record ℕ × List ℕ} (r, rest) p = cc in
         omega (arith, ap (λ (x : Record ℕ × List ℕ). length x.1) q, ap length t.1.1, length-drop t.0 body)
-    go (Err e) t f = let z : ◌≡◌ {A = ℕ} 0 1 = cc in absurd (omega arith)
+    go (Err e) t f = cc
 
 -- of a reader at `place`, whose next record leaves `rest`
 pub record Moved (feed : List ℕ) (place : ℕ) (rest : List ℕ) : Type 0 where

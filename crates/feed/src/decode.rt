@@ -15,15 +15,9 @@ const LARGEST_BATCH: u8 = 64;
 fn address<A: FeedKind>(bytes: &[u8]) -> Result<(A, &[u8]), Refusal>
     ensures { address_part A.AddressKind.num result ≡ taking A.FeedKind.width bytes.now pair }
 {
-    let width = A::width();
-    if bytes.len() < width {
-        return Err(Refusal::FeedEnds);
-    }
-    let (front, rest) = bytes.split_at(width);
-    match A::from_bytes(front) {
-        Some(address) => Ok((address, rest)),
-        None => Err(Refusal::FeedEnds),
-    }
+    let (front, rest) = bytes.split_at_checked(A::width()).ok_or(Refusal::FeedEnds)?;
+    let address = A::from_bytes(front).ok_or(Refusal::FeedEnds)?;
+    Ok((address, rest))
 }
 
 /// The lookup whose body the bytes begin with, and the bytes behind it.
@@ -56,20 +50,6 @@ fn add<A: FeedKind>(body: &[u8]) -> Result<(Record<A>, &[u8]), Refusal>
     Ok((Record::Change(Change::Add { start, finish, hop }), rest))
 }
 
-/// The batch head that the bytes begin with, and the bytes behind it.
-fn head<A: FeedKind>(unread: &[u8]) -> Result<(Record<A>, &[u8]), Refusal>
-    requires { (0 < length unread.now) × (slice_index unread.now 0 ≡ 0x04) }
-    ensures { record_part A.AddressKind.num result ≡ decode_head (drop 1 unread.now) }
-{
-    let [0x04, n, rest @ ..] = unread else {
-        return Err(Refusal::FeedEnds);
-    };
-    if *n == 0 || *n > LARGEST_BATCH {
-        return Err(Refusal::BadCount);
-    }
-    Ok((Record::Batch(*n), rest))
-}
-
 /// The record that the bytes begin with, and the bytes behind it.
 fn record<A: FeedKind>(unread: &[u8]) -> Result<(Record<A>, &[u8]), Refusal>
     requires { 0 < length unread.now }
@@ -79,7 +59,9 @@ fn record<A: FeedKind>(unread: &[u8]) -> Result<(Record<A>, &[u8]), Refusal>
         [0x01, body @ ..] => add(body),
         [0x02, body @ ..] => remove(body),
         [0x03, body @ ..] => lookup(body),
-        [0x04, ..] => head(unread),
+        [0x04, n @ 1..=LARGEST_BATCH, rest @ ..] => Ok((Record::Batch(*n), rest)),
+        [0x04, _, ..] => Err(Refusal::BadCount),
+        [0x04] => Err(Refusal::FeedEnds),
         _ => Err(Refusal::UnknownRecord),
     }
 }

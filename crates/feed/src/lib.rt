@@ -1,4 +1,4 @@
-//! Feeds of records in bytes, the reader over them, and the answer lines.
+//! Feeds of records in bytes, and the reader over them.
 #![tactic(auto)]
 
 mod decode;

@@ -1,12 +1,12 @@
 -- Rows of lookups: what the hops in front of the first refusal are, and the loop that writes them.
-use Rattle.std.proofs.Common.{◌≡◌, ℕ, zero, suc, ◌+◌, ◌-◌, ◌<◌, ◌≤◌, false, ltb, List, [], ◌∷◌, ◌++◌, length, get_or, take, drop, set, Ok, Err, Result, sym, refl, ap, ◌∙◌, subst, inl, inr, arith}
+use Rattle.std.proofs.Common.{◌≡◌, ℕ, zero, suc, ◌+◌, ◌-◌, ◌<◌, ◌≤◌, false, ltb, List, [], ◌∷◌, ◌++◌, length, get_or, take, drop, set, Ok, Err, Result, sym, refl, ap, ◌∙◌, inl, inr, arith}
 use Rattle.std.proofs.lemmas.List.{append_assoc, append-nil, at_drop_more, take_more_set, drop-set-lt, drop-drop, length-take-le, get_or-take, get_or-drop}
 use Rattle.std.proofs.lemmas.Bool.Decides.{nat_tests}
 use Rattle.rules.specs.declared.refusal.Refusal.{Refusal}
 use Rattle.rules.specs.Rules.{Rule}
 use Rattle.rules.specs.Conflicts.{MostSpecific}
-use Rattle.table.specs.Answers.{lookup_answer, Right as LookedRight}
-use Rattle.table.proofs.Lookups.{lookup_right}
+use Rattle.table.specs.Answers.{lookup_answer}
+use Rattle.table.proofs.Lookups.{right_at}
 use Rattle.forward.specs.Rows.{hop_then, hops_of, first_refused, row_answer, Written, RightTo}
 
 -- no more hops than destinations
@@ -47,7 +47,7 @@ refusal_at R (d ∷ ds) h = go (lookup_answer R d) refl (refusal_at R ds) h
 -- a refused address has no most specific rule
 none_specific : (R : List Rule) (d : ℕ) (e : Refusal) → lookup_answer R d ≡ Err e → (r : Rule) → MostSpecific R d r → ⊥
 none_specific R d e p r m =
-    elim (subst (LookedRight R d) p (lookup_right R d)) [
+    elim (right_at R d (Err e) (sym p)) [
       | inl u ↦ u.1 (r, (m.held, m.fits))
       | inr a ↦ a.2 r m
     ]
@@ -72,11 +72,14 @@ module _ (R : List Rule) (ds before : List ℕ) where
     pub more : (d : ℕ) (r : Rule) → i < length ds → i < length hs → d ≡ get_or ds i 0 → Ok r ≡ lookup_answer R d → Sofar hs i → Sofar (set hs i r.hop) (i + 1)
     more d r l k q e s =
         let rest = hops_of R (drop (i + 1) ds) in (
-          s.0
-              ∙ ap (λ t. take i hs ++ t) (behind d (Ok r) l q e)
-              ∙ sym (append_assoc (take i hs) (r.hop ∷ []) rest)
-              ∙ ap (λ t. t ++ rest) (sym (take_more_set hs i r.hop k)),
-          drop-set-lt (i + 1) hs i r.hop (omega arith) ∙ sym (drop-drop 1 i hs) ∙ ap (drop 1) s.1 ∙ drop-drop 1 i before,
+          let b = behind d (Ok r) l q e in
+              let a = append_assoc (take i hs) (r.hop ∷ []) rest in
+              let t = take_more_set hs i r.hop k in
+              cc,
+          let w = drop-set-lt (i + 1) hs i r.hop (omega arith) in
+              let x = drop-drop 1 i hs in
+              let y = drop-drop 1 i before in
+              cc,
         )
 
     -- no hop comes behind a refusal
@@ -90,19 +93,22 @@ module _ (R : List Rule) (ds before : List ℕ) where
           within = rw n (within R ds);
           found = λ j h.
               let x = hop_at R ds j (omega arith) in
-              (x.0, (subst (LookedRight R (get_or ds j 0)) x.1.0 (lookup_right R (get_or ds j 0)), sym (get_or-take i hs j 0 h) ∙ ap (λ xs. get_or xs j 0) t ∙ x.1.1));
+              let k = get_or-take i hs j 0 h in
+              (x.0, (right_at R (get_or ds j 0) (Ok x.0) (sym x.1.0), (cc)));
           refused = λ h.
               let x = refusal_at R ds (omega arith) in
-              none_specific R (get_or ds i 0) x.0 (ap (λ m. lookup_answer R (get_or ds m 0)) n ∙ x.1);
+              none_specific R (get_or ds i 0) x.0 (cc);
           kept = λ j h.
               let m : i + (j - i) ≡ j = omega arith in
-              sym (ap (λ p. get_or hs p 0) m) ∙ sym (get_or-drop i hs (j - i) 0) ∙ ap (λ xs. get_or xs (j - i) 0) u ∙ get_or-drop i before (j - i) 0 ∙ ap (λ p. get_or before p 0) m;
+              let x = get_or-drop i hs (j - i) 0 in
+              let y = get_or-drop i before (j - i) 0 in
+              cc;
         }
 
     -- where no hop is to come, the row is done
     pub done : length ds ≤ length before → i ≤ length hs → hops_of R (drop i ds) ≡ [] → Sofar hs i → Done hs i
     done l k z s =
-        let w : take i hs ≡ hops_of R ds = sym (s.0 ∙ ap (λ t. take i hs ++ t) z ∙ append-nil (take i hs)) in
-        let n : i ≡ first_refused R ds = sym (length-take-le i hs k) ∙ ap length w in
+        let w : take i hs ≡ hops_of R ds = (let a = append-nil (take i hs) in cc) in
+        let n : i ≡ first_refused R ds = (let a = length-take-le i hs k in cc) in
         let b : ltb (length before) (length ds) ≡ false = grind (arith, nat_tests) in
         record { answer = sym (rw (b, ← n)); written = (w, s.1); right = right-to l n w s.1 }

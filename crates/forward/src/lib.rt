@@ -4,5 +4,5 @@
 mod question;
 mod rows;
 
-pub use question::{Forwarding, forward};
+pub use question::{Unforwarded, forward};
 pub use rows::lookup_row;

@@ -9,22 +9,36 @@ use prefix::is_blocked;
 use rules::{RangeStore, Refusal};
 use table::Table;
 
-/// The answer to a forward question.
-#[derive(Clone, Copy)]
-pub enum Forwarding {
+/// Why a destination is not forwarded.
+// By hand, as is its `From`: a derive of another crate would promise nothing of it.
+#[derive(Clone, Copy, PartialEq, Eq, Debug)]
+pub enum Unforwarded {
     /// A block that is not forwarded covers the destination.
-    NotForwarded,
-    /// What the table's lookup answers: the start, the finish and the hop of the most specific rule, or the refusal.
-    Looked(Result<(Ipv4, Ipv4, u16), Refusal>),
+    Blocked,
+    /// The table's lookup refuses.
+    Refused(Refusal),
 }
 
-/// Whether the destination is forwarded, and if so what the table's lookup answers, refusals included.
-pub fn forward<S: RangeStore<Kind = Ipv4>>(table: &S, destination: Ipv4) -> Forwarding
+impl From<Refusal> for Unforwarded {
+    ghost use Rattle.forward.specs.declared.question.Unforwarded.TheVariants.{Refused};
+
+    ghost from_gives = { λ refusal why. why ≡ Refused refusal };
+
+    fn from(refusal: Refusal) -> Unforwarded {
+        Unforwarded::Refused(refusal)
+    }
+}
+
+/// The start, the finish and the hop of the most specific rule, by which the destination is forwarded. Refuses `Blocked`, then as the table's lookup.
+pub fn forward<S: RangeStore<Kind = Ipv4>>(
+    table: &S,
+    destination: Ipv4,
+) -> Result<(Ipv4, Ipv4, u16), Unforwarded>
     ensures answer { told result ≡ forward_answer (S.RangeStore.rules table.now) (ipv4_num destination) }
     ensures right { Right (S.RangeStore.rules table.now) (ipv4_num destination) (told result) }
 {
     if is_blocked(destination) {
-        return Forwarding::NotForwarded;
+        return Err(Unforwarded::Blocked);
     }
-    Forwarding::Looked(table.lookup(destination))
+    Ok(table.lookup(destination)?)
 }

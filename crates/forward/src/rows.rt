@@ -10,6 +10,7 @@ use table::Table;
 /// Looks the destinations up in turn and writes their hops, up to the first whose lookup refuses.
 /// Answers that one's place, or the length of the destination row if there is none; hops at and behind it keep what they held.
 /// Refuses `ShortBuffer` if the hop row is shorter than the destination row, and then writes nothing.
+// Two rows of the caller's: one to read, one to write.
 pub fn lookup_row<S: RangeStore<Kind = Ipv4>>(
     table: &S,
     destinations: &[u32],
@@ -22,11 +23,12 @@ pub fn lookup_row<S: RangeStore<Kind = Ipv4>>(
     if hops.len() < destinations.len() {
         return Err(Refusal::ShortBuffer);
     }
+    // The place is the answer, so a zip with the hops would have to be enumerated too.
     for (i, d) in destinations.iter().enumerate() {
-        let Ok(rule) = table.lookup(Ipv4::new(*d)) else {
+        let Ok((_, _, hop)) = table.lookup(Ipv4::new(*d)) else {
             return Ok(i);
         };
-        hops[i] = rule.2;
+        hops[i] = hop;
     }
     Ok(destinations.len())
 }

@@ -3,7 +3,7 @@
 
 mod answer;
 mod line;
-mod put;
+mod writer;
 
 pub use answer::Answer;
 pub use line::write_line;

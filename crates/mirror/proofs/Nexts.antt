@@ -1,74 +1,47 @@
 -- The next boundary from two searches by finish, one of them in the mirrored set.
-use Rattle.std.proofs.Common.{◌≡◌, ℕ, suc, ◌-◌, ◌<◌, ◌≤◌, min, false, cond, ◌&&◌, ltb, leb, ◌⊎◌, List, [], ◌∷◌, Some, None, Option, refl, ap, ◌∙◌, subst, inl, inr, ⊎_elim, arith}
+use Rattle.std.proofs.Common.{◌≡◌, ℕ, suc, ◌-◌, ◌<◌, ◌≤◌, cond, ltb, leb, ◌⊎◌, List, [], ◌∷◌, Some, None, Option, refl, ap, ◌∙◌, inl, inr, arith}
 use Rattle.std.specs.Option.{option_map}
-use Rattle.std.proofs.lemmas.Bool.{cases_lt, cond_both, and_parts, and_cases, ltb-true, ltb-false, leb-true, leb-false}
+use Rattle.std.proofs.lemmas.Bool.{cond_both, ltb-true, ltb-false, leb-true, leb-false}
 use Rattle.rules.specs.Rules.{Rule, In, Canonical, Bounded}
-use Rattle.rules.specs.Boundaries.{Boundary, LeastBoundary, next_boundary, nearest, nearer}
+use Rattle.rules.specs.Boundaries.{Boundary, next_boundary}
 use Rattle.rules.proofs.Members.{well_formed}
-use Rattle.rules.proofs.Boundaries.{boundary_least}
+use Rattle.rules.proofs.Boundaries.{LeastAbove, least_like, least_nearest, boundary_above}
 use Rattle.mirror.specs.Mirrored.{mirror, mirrored, or_else, finish_from, finish_before, nearest_of, behind}
 use Rattle.mirror.proofs.Mirrors.{in_mirrored, mirrored_in, mirrored-canonical}
 
--- of the numbers above d that are addresses and have P, the least
-abbrev Least : ℕ → ℕ → (ℕ → Type 0) → Option ℕ → Type 0
-Least last d P None = (b : ℕ) → P b → d < b → b ≤ last → ⊥
-Least last d P (Some e) = P e × (d < e) × (e ≤ last) × ((b : ℕ) → P b → d < b → b ≤ last → e ≤ b)
-
-least_one : (last d : ℕ) (P : ℕ → Type 0) (o q : Option ℕ) → Least last d P o → Least last d P q → o ≡ q
+least_one : (last d : ℕ) (P : ℕ → Type 0) (o q : Option ℕ) → LeastAbove last d P o → LeastAbove last d P q → o ≡ q
 least_one last d P None None a b = refl
 least_one last d P None (Some e) a b = absurd (a e b.0 b.1 b.2)
 least_one last d P (Some e) None a b = absurd (b e a.0 a.1 a.2)
-least_one last d P (Some e) (Some f) a b =
-    let p = a.3 f b.0 b.1 b.2 in
-    let q = b.3 e a.0 a.1 a.2 in
-    let z : e ≡ f = omega arith in
-    ap Some z
+least_one last d P (Some e) (Some f) a b = let p = a.3 f b.0 b.1 b.2 in let q = b.3 e a.0 a.1 a.2 in let z : e ≡ f = omega arith in ap Some z
 
-least-same : (last d : ℕ) (P Q : ℕ → Type 0) → ((b : ℕ) → P b → Q b) → ((b : ℕ) → Q b → P b) → (o : Option ℕ) → Least last d P o → Least last d Q o
-least-same last d P Q f g None a = λ b q. a b (g b q)
-least-same last d P Q f g (Some e) a = (f e a.0, a.1, a.2, λ b q. a.3 b (g b q))
+abbrev Is : Option ℕ → ℕ → Type 0
+Is None y = ⊥
+Is (Some b) y = y ≡ b
 
--- none with Q is above d
-least_none : (last d : ℕ) (P Q : ℕ → Type 0) → ((y : ℕ) → Q y → d < y → ⊥) → (o : Option ℕ) → Least last d P o → Least last d (λ y. P y ⊎ Q y) o
-least_none last d P Q n None a = λ y h p l. elim h [ inl x ↦ a y x p l | inr x ↦ n y x p ]
-least_none last d P Q n (Some e) a = (inl a.0, a.1, a.2, λ y h p l. elim h [ inl x ↦ a.3 y x p l | inr x ↦ absurd (n y x p) ])
+least_nearest_of : (last d : ℕ) (P : ℕ → Type 0) (b o : Option ℕ) → LeastAbove last d P o → LeastAbove last d (λ y. P y ⊎ Is b y) (nearest_of last d b o)
+least_nearest_of last d P None o a = least_like last d P (λ y. P y ⊎ ⊥) (λ y p. inl p) (λ y p w. elim p [ inl x ↦ (y, (x, w, omega arith)) | inr n ↦ absurd n ]) o a
+least_nearest_of last d P (Some b) o a = least_nearest last d P b o a
 
--- b is the least with Q above d
-least-nearest : (last d : ℕ) (P Q : ℕ → Type 0) (b : ℕ) → Q b → d < b → ((y : ℕ) → Q y → d < y → b ≤ y) → (o : Option ℕ) → Least last d P o → Least last d (λ y. P y ⊎ Q y) (nearest last d b o)
-least-nearest last d P Q b q w m o a =
-    cond_both (ltb d b && leb b last) (Some (nearer b o)) o (λ z. Least last d (λ y. P y ⊎ Q y) z)
-    (λ t. near o a (leb-true b last (and_parts (ltb d b) (leb b last) t).1))
-    (λ t. least-none-past o a (⊎_elim (λ (x : ltb d b ≡ false). let z = ltb-false d b x in absurd (omega arith)) (λ (x : leb b last ≡ false). leb-false b last x) (and_cases (ltb d b) (leb b last) t)))
-  where
-    near : (o : Option ℕ) → Least last d P o → b ≤ last → Least last d (λ y. P y ⊎ Q y) (Some (nearer b o))
-    near None a l = (inr q, w, l, λ y h p k. elim h [ inl x ↦ absurd (a y x p k) | inr x ↦ m y x p ])
-    near (Some e) a l =
-        ⊎_elim
-        (λ (lt : e < b). let z : e ≡ min b e = omega arith in subst (λ n. Least last d (λ y. P y ⊎ Q y) (Some n)) z (inl a.0, a.1, a.2, λ y h p k. elim h [ inl x ↦ a.3 y x p k | inr x ↦ let f = m y x p in omega arith ]))
-        (λ (ge : b ≤ e). let z : b ≡ min b e = omega arith in subst (λ n. Least last d (λ y. P y ⊎ Q y) (Some n)) z (inr q, w, l, λ y h p k. elim h [ inl x ↦ let f = a.3 y x p k in omega arith | inr x ↦ m y x p ]))
-        (cases_lt e b)
+-- the next address after a finish
+abbrev Ends : List Rule → ℕ → Type 0
+Ends R e = (r : Rule) × (In r R × (e ≡ suc r.finish))
 
-    least-none-past : (o : Option ℕ) → Least last d P o → last < b → Least last d (λ y. P y ⊎ Q y) o
-    least-none-past None a g = λ y h p l. elim h [ inl x ↦ a y x p l | inr x ↦ let f = m y x p in omega arith ]
-    least-none-past (Some e) a g = (inl a.0, a.1, a.2, λ y h p l. elim h [ inl x ↦ a.3 y x p l | inr x ↦ let f = m y x p in absurd (omega arith) ])
-
--- what the two searches find
-abbrev From : List Rule → ℕ → Option ℕ → Type 0
-From R d None = (s : Rule) → In s R → s.finish < d
-From R d (Some f) = ((r : Rule) × (In r R × (f ≡ r.finish))) × (d ≤ f) × ((s : Rule) → In s R → d ≤ s.finish → f ≤ s.finish)
-
-from_is : (R : List Rule) (d : ℕ) → Canonical R → From R d (finish_from R d)
+ends : (last : ℕ) (R : List Rule) (d : ℕ) → Canonical R → LeastAbove last d (Ends R) (nearest_of last d (behind (finish_from R d)) None)
 unfolding finish_from
-from_is [] d c = λ s i. elim i [ ]
-from_is (x ∷ xs) d c =
-    cond_both (leb d x.finish) (Some x.finish) (finish_from xs d) (λ o. From (x ∷ xs) d o)
-    (λ t. ((x, (inl refl, refl)), leb-true d x.finish t, λ s i h. elim i [ inl e ↦ omega (arith, ap (λ (y : Rule). y.finish) e) | inr k ↦ omega (arith, c.1 s k) ]))
-    (λ t. on (finish_from xs d) (leb-false d x.finish t) (from_is xs d c.2))
-  where
-    on : (o : Option ℕ) → x.finish < d → From xs d o → From (x ∷ xs) d o
-    on None h a = λ s i. elim i [ inl e ↦ omega (arith, ap (λ (y : Rule). y.finish) e) | inr k ↦ a s k ]
-    on (Some f) h a = ((a.0.0, (inr a.0.1.0, a.0.1.1)), a.1, λ s i g. elim i [ inl e ↦ absurd (omega (arith, ap (λ (y : Rule). y.finish) e)) | inr k ↦ a.2 s k g ])
+ends last [] d c = λ y q w l. q.1.0
+ends last (x ∷ xs) d c =
+    cond_both (leb d x.finish) (Some x.finish) (finish_from xs d) (λ o. LeastAbove last d (Ends (x ∷ xs)) (nearest_of last d (behind o) None))
+    (λ t.
+    least_like last d (λ y. ⊥ ⊎ (y ≡ suc x.finish)) (Ends (x ∷ xs)) (λ y p. elim p [ inl n ↦ absurd n | inr e ↦ (x, (inl refl, e)) ])
+    (λ y q w. (suc x.finish, (inr refl, omega (arith, leb-true d x.finish t), elim q.1.0 [ inl e ↦ omega (arith, q.1.1, ap (λ (r : Rule). r.finish) e) | inr m ↦ omega (arith, q.1.1, c.1 q.0 m) ])))
+    (nearest_of last d (Some (suc x.finish)) None) (least_nearest last d (λ _. ⊥) (suc x.finish) None (λ y n w l. n)))
+    (λ t.
+    least_like last d (Ends xs) (Ends (x ∷ xs)) (λ y q. (q.0, (inr q.1.0, q.1.1)))
+    (λ y q w. elim q.1.0 [ inl e ↦ absurd (omega (arith, q.1.1, ap (λ (r : Rule). r.finish) e, leb-false d x.finish t)) | inr m ↦ (y, ((q.0, (m, q.1.1)), w, omega arith)) ])
+    (nearest_of last d (behind (finish_from xs d)) None) (ends last xs d c.2))
 
+-- what the last finish before d is
 abbrev Before : List Rule → ℕ → Option ℕ → Type 0
 Before R d None = (s : Rule) → In s R → d ≤ s.finish
 Before R d (Some f) = ((r : Rule) × (In r R × (f ≡ r.finish))) × (f < d) × ((s : Rule) → In s R → s.finish < d → s.finish ≤ f)
@@ -81,54 +54,38 @@ before_is (x ∷ xs) d c = on (finish_before xs d) (before_is xs d c.2)
     on : (o : Option ℕ) → Before xs d o → Before (x ∷ xs) d (or_else o (cond (ltb x.finish d) (Some x.finish) None))
     on None a =
         cond_both (ltb x.finish d) (Some x.finish) None (λ o. Before (x ∷ xs) d o)
-        (λ t. ((x, (inl refl, refl)), ltb-true x.finish d t, λ s i h. elim i [ inl e ↦ omega (arith, ap (λ (y : Rule). y.finish) e) | inr k ↦ let f = a s k in absurd (omega arith) ]))
-        (λ t. λ s i. let z = ltb-false x.finish d t in elim i [ inl e ↦ omega (arith, ap (λ (y : Rule). y.finish) e) | inr k ↦ a s k ])
-    on (Some f) a = (
-      (a.0.0, (inr a.0.1.0, a.0.1.1)),
-      a.1,
-      λ s i h. elim i [ inl e ↦ omega (arith, ap (λ (y : Rule). y.finish) e, c.1 a.0.0 a.0.1.0, a.0.1.1) | inr k ↦ a.2 s k h ],
-    )
+        (λ t. ((x, (inl refl, refl)), ltb-true x.finish d t, λ s i h. let f = a s in grind arith))
+        (λ t. λ s i. let z = ltb-false x.finish d t in let f = a s in grind arith)
+    on (Some f) a = ((a.0.0, (inr a.0.1.0, a.0.1.1)), a.1, λ s i h. let g = c.1 a.0.0 a.0.1.0 in let k = a.2 s in grind arith)
 
 module _ (last : ℕ) (R : List Rule) (d : ℕ) (c : Canonical R) (b : Bounded last R) (h : d ≤ last) where
-  abbrev Ends : ℕ → Type 0
-  Ends e = (r : Rule) × (In r R × (e ≡ suc r.finish))
-
-  abbrev Starts : ℕ → Type 0
-  Starts e = (r : Rule) × (In r R × (e ≡ r.start))
-
-  ends : (o : Option ℕ) → From R d o → Least last d (λ y. ⊥ ⊎ Ends y) (nearest_of last d (behind o) None)
-  ends None f = least_none last d (λ _. ⊥) Ends (λ y q w. let z = f q.0 q.1.0 in omega (arith, q.1.1)) None (λ y x p l. x)
-  ends (Some e) f =
-      least-nearest last d (λ _. ⊥) Ends (suc e) (f.0.0, (f.0.1.0, ap suc f.0.1.1)) (omega (arith, f.1))
-      (λ y q w. let z = f.2 q.0 q.1.0 (omega (arith, q.1.1)) in omega (arith, q.1.1)) None (λ y x p l. x)
-
-  starts : (o : Option ℕ) → Before (mirrored last R) (last - d) o → (P : ℕ → Type 0) (e : Option ℕ) → Least last d P e → Least last d (λ y. P y ⊎ Starts y) (nearest_of last d (option_map (λ f. last - f) o) e)
-  starts None f P e a = least_none last d P Starts (λ y q w. let z = f (mirror last q.0) (mirrored_in last R c b q.0 q.1.0) in let s = well_formed R c q.0 q.1.0 in let t = b q.0 q.1.0 in omega (arith, q.1.1)) e a
-  starts (Some g) f P e a =
+  boundaries : (o q : Option ℕ) → Before (mirrored last R) (last - d) o → LeastAbove last d (λ y. Ends R y ⊎ Is (option_map (λ f. last - f) o) y) q → LeastAbove last d (Boundary R) q
+  boundaries None q f a =
+      least_like last d (λ y. Ends R y ⊎ ⊥) (Boundary R) (λ y p. elim p [ inl n ↦ (n.0, (n.1.0, inr n.1.1)) | inr n ↦ absurd n ])
+      (λ y p w.
+      let g = f (mirror last p.0) (mirrored_in last R c b p.0 p.1.0) in
+      let s = well_formed R c p.0 p.1.0 in
+      let t = b p.0 p.1.0 in
+      elim p.1.1 [ inl e ↦ absurd (omega arith) | inr e ↦ (y, (inl (p.0, (p.1.0, e)), w, omega arith)) ])
+      q a
+  boundaries (Some g) q f a =
       let m = in_mirrored last R f.0.0 f.0.1.0 in
       let s = well_formed R c m.0 m.1.0 in
       let t = b m.0 m.1.0 in
       let k : g ≡ last - m.0.start = f.0.1.1 ∙ ap (λ (y : Rule). y.finish) m.1.1 in
       let z : last - g ≡ m.0.start = omega arith in
-      least-nearest last d P Starts (last - g) (m.0, (m.1.0, z)) (omega (arith, f.1))
-      (λ y q w.
-      let s' = well_formed R c q.0 q.1.0 in
-      let t' = b q.0 q.1.0 in
-      let v = f.2 (mirror last q.0) (mirrored_in last R c b q.0 q.1.0) (omega (arith, q.1.1)) in
-      omega (arith, q.1.1))
-      e a
+      least_like last d (λ y. Ends R y ⊎ (y ≡ last - g)) (Boundary R) (λ y p. elim p [ inl n ↦ (n.0, (n.1.0, inr n.1.1)) | inr n ↦ (m.0, (m.1.0, inl (n ∙ z))) ])
+      (λ y p w.
+      let v = f.2 (mirror last p.0) (mirrored_in last R c b p.0 p.1.0) in
+      let s' = well_formed R c p.0 p.1.0 in
+      let t' = b p.0 p.1.0 in
+      elim p.1.1 [ inl e ↦ (last - g, (inr refl, omega (arith, f.1), let v' = v (omega arith) in omega arith)) | inr e ↦ (y, (inl (p.0, (p.1.0, e)), w, omega arith)) ])
+      q a
 
   pub next_boundary-mirrored : next_boundary last R d ≡ nearest_of last d (option_map (λ f. last - f) (finish_before (mirrored last R) (last - d))) (nearest_of last d (behind (finish_from R d)) None)
   next_boundary-mirrored =
-      let o = nearest_of last d (behind (finish_from R d)) None in
-      let q = nearest_of last d (option_map (λ f. last - f) (finish_before (mirrored last R) (last - d))) o in
-      let both = starts (finish_before (mirrored last R) (last - d)) (before_is (mirrored last R) (last - d) (mirrored-canonical last R c b)) (λ y. ⊥ ⊎ Ends y) o (ends (finish_from R d) (from_is R d c)) in
-      least_one last d (Boundary R) (next_boundary last R d) q (all (next_boundary last R d) (boundary_least last R d))
-      (least-same last d (λ y. (⊥ ⊎ Ends y) ⊎ Starts y) (Boundary R)
-      (λ y p. elim p [ inl x ↦ elim x [ inl n ↦ absurd n | inr n ↦ (n.0, (n.1.0, inr n.1.1)) ] | inr n ↦ (n.0, (n.1.0, inl n.1.1)) ])
-      (λ y p. elim p.1.1 [ inl x ↦ inr (p.0, (p.1.0, x)) | inr x ↦ inl (inr (p.0, (p.1.0, x))) ])
-      q both)
-    where
-      all : (o : Option ℕ) → LeastBoundary last R d o → Least last d (Boundary R) o
-      all None a = a
-      all (Some e) a = a
+      let o = finish_before (mirrored last R) (last - d) in
+      let e = nearest_of last d (behind (finish_from R d)) None in
+      let q = nearest_of last d (option_map (λ f. last - f) o) e in
+      least_one last d (Boundary R) (next_boundary last R d) q (boundary_above last R d)
+      (boundaries o q (before_is (mirrored last R) (last - d) (mirrored-canonical last R c b)) (least_nearest_of last d (Ends R) (option_map (λ f. last - f) o) e (ends last R d c)))

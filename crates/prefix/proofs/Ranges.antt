@@ -1,11 +1,11 @@
 -- The laws of prefixes over the width, which every kind cites.
-use Rattle.std.proofs.Common.{◌≡◌, ℕ, zero, suc, ◌+◌, ◌-◌, ◌*◌, ◌/◌, ◌%◌, ◌^◌, ◌<◌, ◌≤◌, eqb, leb, Decides, sym, ap, ◌∙◌, inl, inr, mod-eq_of_lt, add-mul, arith}
+use Rattle.std.proofs.Common.{◌≡◌, ℕ, zero, suc, ◌+◌, ◌-◌, ◌*◌, ◌/◌, ◌%◌, ◌^◌, ◌<◌, ◌≤◌, true, Decides, sym, ap, ◌∙◌, inl, inr, mod-eq_of_lt, add-mul, arith}
 use native.Mathlib.Nat.{mod-one, div-eq_of_lt-le}
 use Rattle.std.proofs.lemmas.Nat.{pow-add, pow_pos, shr_below, shr_split, mul-le, mod_below, mod-pow-add}
-use Rattle.std.proofs.lemmas.Bool.{cases_eq, and_from, le-leb, eq-eqb}
+use Rattle.std.proofs.lemmas.Bool.{cases_eq}
 use Rattle.std.proofs.lemmas.Bool.Decides.{nat_tests}
 use Rattle.rules.specs.Rules.{Rule, range, Covers, covers}
-use Rattle.prefix.specs.Prefixes.{Prefix, valid, Valid, range_of, first_bits, bit}
+use Rattle.prefix.specs.Prefixes.{Prefix, prefix, valid, Valid, range_of, first_bits, bit}
 
 -- a number that is clear of its last k bits has room for them
 room : (w k v : ℕ) → k ≤ w → v < 2 ^ w → v % 2 ^ k ≡ 0 → v + 2 ^ k ≤ 2 ^ w
@@ -48,7 +48,7 @@ module _ (w : ℕ) (p : Prefix) where
       within = grind (arith, nat_tests);
       clear = bits_clear p.value (w - p.length) (grind (arith, nat_tests));
     }),
-    (λ v. and_from (leb p.length w) (eqb (p.value % 2 ^ (w - p.length)) 0) (le-leb p.length w v.within) (eq-eqb (p.value % 2 ^ (w - p.length)) 0 (clear_bits p.value (w - p.length) v.clear))),
+    (λ v. let l = v.within in let z = clear_bits p.value (w - p.length) v.clear in grind (arith, nat_tests)),
   )
 
 module _ (w : ℕ) (p : Prefix) (v : Valid w p) where
@@ -68,9 +68,6 @@ module _ (w : ℕ) (p : Prefix) (v : Valid w p) where
       let z : p.value ≡ 0 = sym (mod-eq_of_lt v.small) ∙ (rw k at behind) in
       rw (z, k) (ap (range 0) (omega arith))
 
-  pub single : p.length ≡ w → range_of w p ≡ range p.value p.value
-  single e = let k : w - p.length ≡ 0 = omega arith in rw k (ap (range p.value) (omega arith))
-
   -- a range covers the numbers of one quotient
   pub same-first_bits : (d : ℕ)
       → (Covers (range_of w p) d → first_bits w p.length d ≡ first_bits w p.length p.value)
@@ -86,3 +83,9 @@ module _ (w : ℕ) (p : Prefix) (v : Valid w p) where
 
 pub covers_decides : (r : Rule) (d : ℕ) → Decides (covers r d) (Covers r d)
 covers_decides r d = ((λ e. grind (arith, nat_tests)), (λ h. grind (arith, nat_tests)))
+
+-- the bits behind the length fit above the value
+pub ends : (w v l : ℕ) → v < 2 ^ w → valid w (prefix v l) ≡ true → (l ≤ w) × (0 < 2 ^ (w - l)) × (v + 2 ^ (w - l) ≤ 2 ^ w)
+ends w v l small ok =
+    let p = (valid_decides w (prefix v l) small).0 ok in
+    (p.within, pow_pos (w - l), omega (arith, (range_forward w (prefix v l) p).1))

@@ -1,5 +1,6 @@
 -- The IPv4 blocks that are not forwarded: a table of prefixes, and the test whether one of them covers an address.
-use Rattle.std.specs.Prelude.{◌≡◌, ℕ, ◌+◌, ◌*◌, Bool, false, ◌||◌, ◌⊎◌, List, [], ◌∷◌}
+use Rattle.std.specs.Prelude.{◌≡◌, ℕ, ◌+◌, ◌*◌, Bool, ◌⊎◌, List, [], ◌∷◌}
+use Rattle.std.specs.List.{list_any}
 use Rattle.rules.specs.Rules.{Rule, range, Covers, covers}
 use Rattle.prefix.specs.Prefixes.{Prefix, prefix, range_of}
 
@@ -41,8 +42,7 @@ Blocked d = (b : Prefix) × (In b blocks × Covers (range_of 32 b) d)
 
 -- whether the range of some prefix of the table covers d
 unfoldable pub some_covers : ℕ → List Prefix → ℕ → Bool
-some_covers w [] d = false
-some_covers w (x ∷ xs) d = covers (range_of w x) d || some_covers w xs d
+some_covers w ps d = list_any (λ p. covers (range_of w p) d) ps
 
 abbrev pub blocked : ℕ → Bool
 blocked d = some_covers 32 blocks d

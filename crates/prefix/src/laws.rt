@@ -3,7 +3,7 @@
 ghost use Rattle.prefix.specs.Laws.{ValidLaw, RangeLaw, DefaultLaw, SingleLaw, FirstBitsLaw, CoversLaw, WidthsLaw, BlocksLaw, EdgesLaw, BlockedLaw};
 
 /// What prefixes of any width are, and which addresses their ranges cover.
-pub fn prefix_laws() -> u8
+pub fn prefix_laws()
     ensures valid { ValidLaw }
     ensures range { RangeLaw }
     ensures default_range { DefaultLaw }
@@ -11,15 +11,11 @@ pub fn prefix_laws() -> u8
     ensures first_bits { FirstBitsLaw }
     ensures covers { CoversLaw }
     ensures widths { WidthsLaw }
-{
-    0
-}
+{}
 
 /// What the table of blocks holds, and which addresses it blocks.
-pub fn block_laws() -> u8
+pub fn block_laws()
     ensures blocks { BlocksLaw }
     ensures edges { EdgesLaw }
     ensures blocked { BlockedLaw }
-{
-    0
-}
+{}

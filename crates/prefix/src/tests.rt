@@ -1,46 +1,15 @@
 //! Ranges at the edges of both widths, refusals, and the edges of every block.
 
 use crate::blocks::is_blocked;
-use crate::types::{Prefix4, Prefix6};
+use crate::four::Prefix4;
+use crate::six::Prefix6;
 use address::{Ipv4, Ipv6};
+use rules::Refusal;
+use std::test::Fail;
 
-// Whether the prefix is made and has this range.
-fn spans4(value: u32, length: u8, last: u32) -> bool {
-    match Prefix4::new(Ipv4::new(value), length) {
-        Ok(p) => {
-            let (first, finish) = p.range();
-            first.value() == value && finish.value() == last
-        }
-        Err(_) => false,
-    }
-}
-
-fn spans6(high: u64, low: u64, length: u8, last: (u64, u64)) -> bool {
-    match Prefix6::new(Ipv6::new(high, low), length) {
-        Ok(p) => {
-            let (first, finish) = p.range();
-            first.high() == high
-                && first.low() == low
-                && finish.high() == last.0
-                && finish.low() == last.1
-        }
-        Err(_) => false,
-    }
-}
-
-// The number of the refusal, or 0 for a prefix.
-fn refusal4(value: u32, length: u8) -> u8 {
-    match Prefix4::new(Ipv4::new(value), length) {
-        Ok(_) => 0,
-        Err(refusal) => refusal.number(),
-    }
-}
-
-fn refusal6(high: u64, low: u64, length: u8) -> u8 {
-    match Prefix6::new(Ipv6::new(high, low), length) {
-        Ok(_) => 0,
-        Err(refusal) => refusal.number(),
-    }
+// The number of the refusal, or none for what is made.
+fn refused<P: Drop>(made: Result<P, Refusal>) -> Option<u8> {
+    made.err().map(Refusal::number)
 }
 
 fn blocked(number: u32) -> bool {
@@ -53,37 +22,79 @@ fn edges(before: u32, first: u32, last: u32, after: u32) -> bool {
 }
 
 #[test]
-fn ranges_of_ipv4(rt: HostRuntime) {
-    assert!(rt; spans4(0, 0, u32::MAX));
-    assert!(rt; spans4(0x8000_0000, 1, u32::MAX));
-    assert!(rt; spans4(0x0a00_0002, 31, 0x0a00_0003));
-    assert!(rt; spans4(0x0a00_0003, 32, 0x0a00_0003));
+fn ranges_of_ipv4(rt: HostRuntime) -> Result<(), Fail> {
+    assert_eq!(rt;
+        Prefix4::new(Ipv4::new(0), 0)?.range(),
+        (Ipv4::new(0), Ipv4::new(u32::MAX))
+    );
+    assert_eq!(rt;
+        Prefix4::new(Ipv4::new(0x8000_0000), 1)?.range(),
+        (Ipv4::new(0x8000_0000), Ipv4::new(u32::MAX))
+    );
+    assert_eq!(rt;
+        Prefix4::new(Ipv4::new(0x0a00_0002), 31)?.range(),
+        (Ipv4::new(0x0a00_0002), Ipv4::new(0x0a00_0003))
+    );
+    assert_eq!(rt;
+        Prefix4::new(Ipv4::new(0x0a00_0003), 32)?.range(),
+        (Ipv4::new(0x0a00_0003), Ipv4::new(0x0a00_0003))
+    );
+    Ok(())
 }
 
 #[test]
-fn short_ranges_of_ipv6(rt: HostRuntime) {
-    assert!(rt; spans6(0, 0, 0, (u64::MAX, u64::MAX)));
-    assert!(rt; spans6(1 << 63, 0, 1, (u64::MAX, u64::MAX)));
-    assert!(rt; spans6(2 << 32, 0, 31, (0x3_ffff_ffff, u64::MAX)));
-    assert!(rt; spans6(3 << 32, 0, 32, (0x3_ffff_ffff, u64::MAX)));
+fn short_ranges_of_ipv6(rt: HostRuntime) -> Result<(), Fail> {
+    assert_eq!(rt;
+        Prefix6::new(Ipv6::new(0, 0), 0)?.range(),
+        (Ipv6::new(0, 0), Ipv6::new(u64::MAX, u64::MAX))
+    );
+    assert_eq!(rt;
+        Prefix6::new(Ipv6::new(1 << 63, 0), 1)?.range(),
+        (Ipv6::new(1 << 63, 0), Ipv6::new(u64::MAX, u64::MAX))
+    );
+    assert_eq!(rt;
+        Prefix6::new(Ipv6::new(2 << 32, 0), 31)?.range(),
+        (Ipv6::new(2 << 32, 0), Ipv6::new(0x3_ffff_ffff, u64::MAX))
+    );
+    assert_eq!(rt;
+        Prefix6::new(Ipv6::new(3 << 32, 0), 32)?.range(),
+        (Ipv6::new(3 << 32, 0), Ipv6::new(0x3_ffff_ffff, u64::MAX))
+    );
+    Ok(())
 }
 
 #[test]
-fn long_ranges_of_ipv6(rt: HostRuntime) {
-    assert!(rt; spans6(2, 0, 63, (3, u64::MAX)));
-    assert!(rt; spans6(3, 0, 64, (3, u64::MAX)));
-    assert!(rt; spans6(3, 1 << 63, 65, (3, u64::MAX)));
-    assert!(rt; spans6(3, 4, 127, (3, 5)));
-    assert!(rt; spans6(3, 5, 128, (3, 5)));
+fn long_ranges_of_ipv6(rt: HostRuntime) -> Result<(), Fail> {
+    assert_eq!(rt;
+        Prefix6::new(Ipv6::new(2, 0), 63)?.range(),
+        (Ipv6::new(2, 0), Ipv6::new(3, u64::MAX))
+    );
+    assert_eq!(rt;
+        Prefix6::new(Ipv6::new(3, 0), 64)?.range(),
+        (Ipv6::new(3, 0), Ipv6::new(3, u64::MAX))
+    );
+    assert_eq!(rt;
+        Prefix6::new(Ipv6::new(3, 1 << 63), 65)?.range(),
+        (Ipv6::new(3, 1 << 63), Ipv6::new(3, u64::MAX))
+    );
+    assert_eq!(rt;
+        Prefix6::new(Ipv6::new(3, 4), 127)?.range(),
+        (Ipv6::new(3, 4), Ipv6::new(3, 5))
+    );
+    assert_eq!(rt;
+        Prefix6::new(Ipv6::new(3, 5), 128)?.range(),
+        (Ipv6::new(3, 5), Ipv6::new(3, 5))
+    );
+    Ok(())
 }
 
 #[test]
 fn refusals(rt: HostRuntime) {
-    assert!(rt; refusal4(0x0a00_0001, 24) == 11);
-    assert!(rt; refusal4(0, 33) == 11);
-    assert!(rt; refusal6(1, 0, 63) == 11);
-    assert!(rt; refusal6(0, 1, 64) == 11);
-    assert!(rt; refusal6(0, 0, 129) == 11);
+    assert_eq!(rt; refused(Prefix4::new(Ipv4::new(0x0a00_0001), 24)), Some(11));
+    assert_eq!(rt; refused(Prefix4::new(Ipv4::new(0), 33)), Some(11));
+    assert_eq!(rt; refused(Prefix6::new(Ipv6::new(1, 0), 63)), Some(11));
+    assert_eq!(rt; refused(Prefix6::new(Ipv6::new(0, 1), 64)), Some(11));
+    assert_eq!(rt; refused(Prefix6::new(Ipv6::new(0, 0), 129)), Some(11));
 }
 
 #[test]

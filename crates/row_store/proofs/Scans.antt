@@ -1,39 +1,20 @@
--- A scan of a list from the front: the turn that ends it, the turn that goes on, the end.
-use Rattle.std.proofs.Common.{◌≡◌, ℕ, suc, ◌+◌, ◌-◌, ◌<◌, ◌≤◌, Bool, true, false, cond, List, [], ◌∷◌, map, length, get_or, take, drop, Some, None, Option, sym, refl, ◌∙◌, arith}
+-- The searches of a row: the turn that ends a scan, the turn that goes on and the end, and the place where a search for a range ends.
+use Rattle.std.proofs.Common.{◌≡◌, ℕ, zero, suc, ◌+◌, ◌<◌, ◌≤◌, Bool, true, false, cond, List, [], ◌∷◌, ◌++◌, map, length, append_assoc, get_or, take, drop, Some, None, Option, Ok, Err, Result, sym, refl, ap, ◌∙◌, inl, inr, arith}
 use Rattle.std.proofs.lemmas.List.{drop_all, take_all, map_more}
-use Rattle.rules.specs.Rules.{Rule, range, hop_of, same, earlier, covers, ordered}
+use Rattle.std.proofs.lemmas.Bool.Decides.{nat_tests}
+use Rattle.std.specs.List.{slice_index_or, push}
+use Rattle.std.specs.List.Sorted.{IsNonDecreasingBy, IsPartitionPoint, IsSearchInRange, IsBinarySearchResult}
+use Rattle.std.specs.Ordering.{ordering_index}
+use Rattle.std.specs.declared.cmp.Ordering.TheVariants.{Less, Equal, Greater}
+use Rattle.rules.specs.declared.rule.Rule.{Rule as Stored}
+use Rattle.rules.specs.Rules.{Rule, range, hop_of, order, covers, ordered, In, Earlier, Canonical}
 use Rattle.rules.specs.Search.{best, better, closer, least_finish, greatest_start}
 use Rattle.rules.specs.Boundaries.{next_boundary, nearest}
 use Rattle.rules.proofs.Search.{best-++, closer_ranks}
-use Rattle.rules.specs.Answers.{place_of}
-use Rattle.rules.proofs.Places.{first, first_is_best, ordered_decides}
+use Rattle.rules.specs.Answers.{place_of, numbered}
+use Rattle.rules.proofs.Places.{first, first_is_best, ordered_decides, order-less, order-equal, order-greater}
+use Rattle.row_store.specs.Held.{IsPlace}
 use Rattle.row_store.proofs.Lists.{next_left}
-
-module _ {X : Type 0} (f : X → Rule) (xs : List X) (i : ℕ) (u v : ℕ) (inv : hop_of (map f xs) u v ≡ hop_of (map f (drop i xs)) u v) where
-  pub hop-here : (x : X) → i < length xs → x ≡ get_or xs i x → true ≡ same (range u v) (f x) → Some (f x).hop ≡ hop_of (map f xs) u v
-  unfolding hop_of
-  hop-here x h e t = sym (rw (inv, next_left f xs i x h e, ← t))
-
-  pub hop_on : (x : X) → i < length xs → x ≡ get_or xs i x → false ≡ same (range u v) (f x) → hop_of (map f xs) u v ≡ hop_of (map f (drop (i + 1) xs)) u v
-  unfolding hop_of
-  hop_on x h e t = rw (inv, next_left f xs i x h e, ← t)
-
-  pub hop-end : length xs ≤ i → None ≡ hop_of (map f xs) u v
-  unfolding hop_of
-  hop-end h = sym (rw (inv, drop_all i xs h))
-
-module _ {X : Type 0} (f : X → Rule) (xs : List X) (i : ℕ) (u v : ℕ) (inv : place_of (map f xs) u v ≡ i + place_of (map f (drop i xs)) u v) where
-  pub place_here : (x : X) → i < length xs → x ≡ get_or xs i x → false ≡ earlier (f x) (range u v) → i ≡ place_of (map f xs) u v
-  unfolding place_of
-  place_here x h e t = sym (rw (inv, next_left f xs i x h e, ← t) (omega arith))
-
-  pub place_on : (x : X) → i < length xs → x ≡ get_or xs i x → true ≡ earlier (f x) (range u v) → place_of (map f xs) u v ≡ i + 1 + place_of (map f (drop (i + 1) xs)) u v
-  unfolding place_of
-  place_on x h e t = rw (inv, next_left f xs i x h e, ← t) (omega arith)
-
-  pub place_end : length xs ≤ i → i ≡ place_of (map f xs) u v
-  unfolding place_of
-  place_end h = sym (rw (inv, drop_all i xs h) (omega arith))
 
 module _ {X : Type 0} (f : X → Rule) (xs : List X) (i d : ℕ) (inv : first (λ r. covers r d) (map f xs) ≡ first (λ r. covers r d) (map f (drop i xs))) where
   pub first-here : (x : X) → ordered (map f xs) ≡ true → i < length xs → x ≡ get_or xs i x → true ≡ covers (f x) d → Some (f x) ≡ least_finish (map f xs) d
@@ -67,19 +48,70 @@ closest_on f xs i d o q x h e a b =
 pub closest_end : {X : Type 0} (f : X → Rule) (xs : List X) (i d : ℕ) (o : Option Rule) → length xs ≤ i → o ≡ greatest_start (map f (take i xs)) d → o ≡ greatest_start (map f xs) d
 closest_end f xs i d o h a = a ∙ rw (take_all i xs h)
 
-pub boundary_none : {X : Type 0} (f : X → Rule) (xs : List X) (i last d : ℕ) → length xs ≤ i → None ≡ next_boundary last (map f (drop i xs)) d
-unfolding next_boundary
-boundary_none f xs i last d h = rw (drop_all i xs h)
+module _ {A : Type 0} (num : A → ℕ) where
+  in_at : (xs : List (Stored A)) (j : ℕ) (d : Stored A) → j < length xs → In (numbered num (slice_index_or xs j d)) (map (numbered num) xs)
+  in_at [] j d h = absurd (omega arith)
+  in_at (x ∷ xs) zero d h = inl refl
+  in_at (x ∷ xs) (suc j) d h = inr (in_at xs j d (omega arith))
 
-boundary_at : {X : Type 0} (f : X → Rule) (xs : List X) (i last d : ℕ) (o p q : Option ℕ) (x : X) → i < length xs → x ≡ get_or xs i x
-    → o ≡ next_boundary last (map f (drop (i + 1) xs)) d → p ≡ nearest last d (suc (f x).finish) o → q ≡ nearest last d (f x).start p → q ≡ next_boundary last (map f (drop i xs)) d
-unfolding next_boundary
-boundary_at f xs i last d o p q x h e a b c = rw (c, b, a, next_left f xs i x h e)
+  rises : (x y r : Rule) → Earlier x y → ordering_index (order x r) ≤ ordering_index (order y r)
+  rises x y r (inl a) = grind (arith, nat_tests)
+  rises x y r (inr a) = grind (arith, nat_tests, a.0, a.1)
 
--- a scan from the back
-pub boundary_on : {X : Type 0} (f : X → Rule) (xs : List X) (i last d : ℕ) (o p q : Option ℕ) (x : X) → 0 < i → i ≤ length xs → x ≡ get_or xs (i - 1) x
-    → o ≡ next_boundary last (map f (drop i xs)) d → p ≡ nearest last d (suc (f x).finish) o → q ≡ nearest last d (f x).start p → q ≡ next_boundary last (map f (drop (i - 1) xs)) d
-boundary_on f xs i last d o p q x z h e a b c =
-    let j : i - 1 + 1 ≡ i = omega arith in
-    let a' : o ≡ next_boundary last (map f (drop (i - 1 + 1) xs)) d = rw j a in
-    boundary_at f xs (i - 1) last d o p q x (omega arith) e a' b c
+  -- in canonical order those before a range come first, and those after it last
+  rising : (r : Rule) (xs : List (Stored A)) → Canonical (map (numbered num) xs) → IsNonDecreasingBy (λ x. ordering_index (order (numbered num x) r)) xs
+  rising r [] c i j d a h = absurd (omega arith)
+  rising r (x ∷ xs) c zero zero d a h = omega arith
+  rising r (x ∷ xs) c zero (suc j) d a h = rises (numbered num x) (numbered num (slice_index_or xs j d)) r (c.1 _ (in_at xs j d (omega arith)))
+  rising r (x ∷ xs) c (suc i) zero d a h = absurd (omega arith)
+  rising r (x ∷ xs) c (suc i) (suc j) d a h = rising r xs c.2 i j d (omega arith) (omega arith)
+
+  module _ (u v : ℕ) where
+    before_equal : (x y : Rule) → Earlier x y → order y (range u v) ≡ Equal → order x (range u v) ≡ Less
+    before_equal x y (inl a) e = grind (arith, nat_tests)
+    before_equal x y (inr a) e = grind (arith, nat_tests, a.0, a.1)
+
+    -- a place of the range is the one where it belongs
+    found_at : (xs : List (Stored A)) (p : ℕ) → Canonical (map (numbered num) xs) → p < length xs → ((d : Stored A) → order (numbered num (slice_index_or xs p d)) (range u v) ≡ Equal) → IsPlace num xs u v (Ok p)
+    unfolding place_of hop_of
+    found_at [] p c h e = absurd (omega arith)
+    found_at (x ∷ xs) zero c h e = let a = order-equal (numbered num x) (range u v) (sym (e x)) in (sym (rw a.0), h, λ d. rw a.2)
+    found_at (x ∷ xs) (suc p) c h e =
+        let ih = found_at xs p c.2 (omega arith) e in
+        let a = order-less (numbered num x) (range u v) (sym (before_equal (numbered num x) (numbered num (slice_index_or xs p x)) (c.1 _ (in_at xs p x (omega arith))) (e x))) in
+        (rw a.0 (ap suc ih.0), h, λ d. rw a.1 (ih.2 d))
+
+    -- what stands between the lesser and the greater is not held
+    parted_at : (xs : List (Stored A)) (p : ℕ) → p ≤ length xs → IsPartitionPoint (λ x. order (numbered num x) (range u v) ≡ Less) (λ x. order (numbered num x) (range u v) ≡ Greater) xs p → IsPlace num xs u v (Err p)
+    unfolding place_of hop_of
+    parted_at [] p h e = (omega arith, h, refl)
+    parted_at (x ∷ xs) zero h e =
+        let ih = parted_at xs zero (omega arith) ((λ k d a b. absurd (omega arith)), (λ k d a b. e.1 (suc k) d (omega arith) (omega arith))) in
+        let a = order-greater (numbered num x) (range u v) (sym (e.1 0 x (omega arith) (omega arith))) in
+        (sym (rw a.0), h, rw a.2 ih.2)
+    parted_at (x ∷ xs) (suc p) h e =
+        let ih = parted_at xs p (omega arith) ((λ k d a b. e.0 (suc k) d (omega arith) (omega arith)), (λ k d a b. e.1 (suc k) d (omega arith) (omega arith))) in
+        let a = order-less (numbered num x) (range u v) (sym (e.0 0 x (omega arith) (omega arith))) in
+        (rw a.0 (ap suc ih.0), h, rw a.1 ih.2)
+
+    pub searched : (xs : List (Stored A)) (r : Result ℕ ℕ) → Canonical (map (numbered num) xs) → IsSearchInRange r (length xs)
+        → IsBinarySearchResult (λ x. order (numbered num x) (range u v)) xs r → IsPlace num xs u v r
+    searched xs (Ok p) c h e = found_at xs p c h e
+    searched xs (Err p) c h e = parted_at xs p h (e (rising (range u v) xs c))
+
+-- a scan from the back: one rule more in front
+pub boundary_on : (x : Rule) (R : List Rule) (last d : ℕ) (o p q : Option ℕ) → o ≡ next_boundary last R d → p ≡ nearest last d (suc x.finish) o → q ≡ nearest last d x.start p → q ≡ next_boundary last (x ∷ R) d
+unfolding next_boundary
+boundary_on x R last d o p q a b c = rw (c, b, a)
+
+pub boundary_none : (last d : ℕ) → None ≡ next_boundary last [] d
+unfolding next_boundary
+boundary_none last d = refl
+
+-- what a scan from the back has passed: one more, and all
+pub pushed : {X : Type 0} (all xs ys : List X) (zs : List X) (x : X) → all ≡ xs ++ zs → xs ≡ push ys x → all ≡ ys ++ (x ∷ zs)
+pushed all xs ys zs x a b = a ∙ rw (b, append_assoc ys (x ∷ []) zs)
+
+pub all_passed : {X : Type 0} (all xs zs : List X) → all ≡ xs ++ zs → length xs ≡ 0 → zs ≡ all
+all_passed all [] zs a b = sym a
+all_passed all (x ∷ xs) zs a b = absurd (omega (arith, b))

@@ -1,20 +1,14 @@
 -- What a row of places means as a store.
-use Rattle.std.specs.Prelude.{ℕ, min, List, map, length, take}
+use Rattle.std.specs.Prelude.{◌≡◌, ℕ, ◌<◌, ◌≤◌, List, map, take, length, slice_index_or, Some, None, Ok, Err, Result}
 use Rattle.rules.specs.declared.rule.Rule.{Rule as Stored}
-use Rattle.rules.specs.Rules.{Rule}
-use Rattle.rules.specs.Answers.{numbered}
-use Rattle.row_store.specs.declared.places.Places.{Places}
+use Rattle.rules.specs.Rules.{Rule, hop_of}
+use Rattle.rules.specs.Answers.{numbered, place_of}
 
 -- the first n places of the row, by numbers
 abbrev pub held : {A : Type 0} → (A → ℕ) → ℕ → List (Stored A) → List Rule
 held num n row = map (numbered num) (take n row)
 
--- a row's length, but 65,535 at most
-abbrev pub capped : ℕ → ℕ
-capped n = min n 65535
-
-abbrev pub rules_of : {A : Type 0} → (A → ℕ) → Places A → List Rule
-rules_of num p = held num p.count p.row.now
-
-abbrev pub capacity_of : {A : Type 0} → Places A → ℕ
-capacity_of p = capped (length p.row.now)
+-- where a search for [u, v] ends: at the range's place, where it is held with its hop, or is not held
+abbrev pub IsPlace : {A : Type 0} → (A → ℕ) → List (Stored A) → ℕ → ℕ → Result ℕ ℕ → Type 0
+IsPlace num xs u v (Ok p) = (p ≡ place_of (map (numbered num) xs) u v) × (p < length xs) × ((d : Stored _) → hop_of (map (numbered num) xs) u v ≡ Some (slice_index_or xs p d).hop)
+IsPlace num xs u v (Err p) = (p ≡ place_of (map (numbered num) xs) u v) × (p ≤ length xs) × (hop_of (map (numbered num) xs) u v ≡ None)

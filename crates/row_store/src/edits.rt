@@ -1,4 +1,4 @@
-//! Edits of a row's first places.
+//! Edits of a row's first places. They take the row with a count: an insert takes the first of the places behind, which are undecided.
 
 ghost use Rattle.std.specs.Prelude.{◌≡◌, ◌+◌, ◌-◌, ◌<◌, ◌≤◌, length, take, slice_set};
 ghost use Rattle.std.specs.List.{insert, remove};

@@ -1,5 +1,6 @@
 -- Membership, order, and what insert, delete and hop_of do to a set.
-use Rattle.std.proofs.Common.{◌≡◌, ℕ, ◌≤◌, Bool, true, false, cond, ◌⊎◌, List, [], ◌∷◌, ◌++◌, is_some, Some, None, sym, refl, ap₂, inl, inr, arith}
+use Rattle.std.proofs.Common.{◌≡◌, ℕ, ◌≤◌, true, false, cond, ◌⊎◌, List, [], ◌∷◌, ◌++◌, is_some, Some, None, refl, ap₂, inl, inr, arith}
+use Rattle.std.proofs.lemmas.Bool.{cond_both}
 use Rattle.std.proofs.lemmas.Bool.Decides.{nat_tests}
 use Rattle.rules.specs.Rules.{Rule, range, In, Covers, Same, Absent, Earlier, Canonical, earlier, same, covers, insert, delete, hop_of}
 
@@ -28,18 +29,17 @@ unfolding insert
 in_insert_keep r [] s n h = elim h [ ]
 in_insert_keep r (x ∷ xs) s n h = let ih = in_insert_keep r xs s n in grind (arith, same_tells)
 
-pub earlier_trans : (r s t : Rule) → Earlier r s → Earlier s t → Earlier r t
-earlier_trans r s t p q = grind arith
-
 pub insert-canonical : (r : Rule) (R : List Rule) → r.start ≤ r.finish → Canonical R → Canonical (insert r R)
 unfolding insert
 insert-canonical r [] w c = (w, (λ y h. absurd h), tt)
-insert-canonical r (x ∷ xs) w c = go (same r x) (earlier r x) refl refl (insert-canonical r xs w c.2)
-  where
-    go : (b e : Bool) → same r x ≡ b → earlier r x ≡ e → Canonical (insert r xs) → Canonical (cond b (r ∷ xs) (cond e (r ∷ (x ∷ xs)) (x ∷ insert r xs)))
-    go true e p q ih = (w, (λ y h. let k = c.1 y h in grind (arith, nat_tests)), c.2)
-    go false true p q ih = (w, (λ y h. let k = c.1 y in grind (arith, nat_tests)), c)
-    go false false p q ih = (c.0, (λ y h. let k = c.1 y in let o = in_insert_old r xs y h in grind (arith, nat_tests)), ih)
+insert-canonical r (x ∷ xs) w c =
+    let ih = insert-canonical r xs w c.2 in
+    cond_both (same r x) (r ∷ xs) (cond (earlier r x) (r ∷ (x ∷ xs)) (x ∷ insert r xs)) Canonical
+    (λ p. (w, (λ y h. let k = c.1 y in grind (arith, nat_tests)), c.2))
+    (λ p.
+    cond_both (earlier r x) (r ∷ (x ∷ xs)) (x ∷ insert r xs) Canonical
+    (λ q. (w, (λ y h. let k = c.1 y in grind (arith, nat_tests)), c))
+    (λ q. (c.0, (λ y h. let k = c.1 y in let o = in_insert_old r xs y h in grind (arith, nat_tests)), ih)))
 
 pub delete_absent : (u v : ℕ) (R : List Rule) → Absent (range u v) R → delete u v R ≡ R
 unfolding delete
@@ -74,45 +74,31 @@ in_delete_keep u v (x ∷ xs) s h n = let ih = in_delete_keep u v xs s in grind 
 pub delete-canonical : (u v : ℕ) (R : List Rule) → Canonical R → Canonical (delete u v R)
 unfolding delete
 delete-canonical u v [] c = tt
-delete-canonical u v (x ∷ xs) c = go (same (range u v) x) (delete-canonical u v xs c.2)
-  where
-    go : (b : Bool) → Canonical (delete u v xs) → Canonical (cond b (delete u v xs) (x ∷ delete u v xs))
-    go true ih = ih
-    go false ih = (c.0, (λ y h. c.1 y (in_delete u v xs y h).0), ih)
+delete-canonical u v (x ∷ xs) c =
+    let ih = delete-canonical u v xs c.2 in
+    cond_both (same (range u v) x) (delete u v xs) (x ∷ delete u v xs) Canonical (λ e. ih) (λ e. (c.0, (λ y h. c.1 y (in_delete u v xs y h).0), ih))
 
 -- a canonical list holds a range once
 pub in_same : (R : List Rule) → Canonical R → (r s : Rule) → In r R → In s R → Same r s → r ≡ s
 in_same [] c r s h k e = elim h [ ]
-in_same (x ∷ xs) c r s (inl p) (inl q) e = cc
-in_same (x ∷ xs) c r s (inl p) (inr k) e = let o = c.1 s k in grind arith
-in_same (x ∷ xs) c r s (inr h) (inl q) e = let o = c.1 r h in grind arith
-in_same (x ∷ xs) c r s (inr h) (inr k) e = in_same xs c.2 r s h k e
+in_same (x ∷ xs) c r s h k e = let ih = in_same xs c.2 r s in let a = c.1 s in let b = c.1 r in grind arith
 
 pub well_formed : (R : List Rule) → Canonical R → (r : Rule) → In r R → r.start ≤ r.finish
 well_formed [] c r h = elim h [ ]
-well_formed (x ∷ xs) c r (inl p) = let o = c.0 in grind arith
-well_formed (x ∷ xs) c r (inr h) = well_formed xs c.2 r h
+well_formed (x ∷ xs) c r h = let o = c.0 in let ih = well_formed xs c.2 r in grind arith
 
 -- equal sets are equal lists
 pub canonical_ext : (R S : List Rule) → Canonical R → Canonical S → ((r : Rule) → In r R → In r S) → ((r : Rule) → In r S → In r R) → R ≡ S
 canonical_ext [] [] c d f g = refl
 canonical_ext [] (y ∷ ys) c d f g = elim (g y (inl refl)) [ ]
 canonical_ext (x ∷ xs) [] c d f g = elim (f x (inl refl)) [ ]
-canonical_ext (x ∷ xs) (y ∷ ys) c d f g = ap₂ ◌∷◌ e (canonical_ext xs ys c.2 d.2 to from)
-  where
-    e : x ≡ y
-    e = go (f x (inl refl)) (g y (inl refl))
-      where
-        go : In x (y ∷ ys) → In y (x ∷ xs) → x ≡ y
-        go (inl p) k = p
-        go (inr h) (inl q) = sym q
-        go (inr h) (inr k) = let a = c.1 y k in let b = d.1 x h in absurd (omega arith)
-
-    to : (r : Rule) → In r xs → In r ys
-    to r h = let q = e in let a = c.1 r h in let k = f r (inr h) in grind arith
-
-    from : (r : Rule) → In r ys → In r xs
-    from r h = let q = e in let a = d.1 r h in let k = g r (inr h) in grind arith
+canonical_ext (x ∷ xs) (y ∷ ys) c d f g =
+    let h = f x (inl refl) in
+    let k = g y (inl refl) in
+    let a = c.1 y in
+    let b = d.1 x in
+    let e : x ≡ y = grind arith in
+    ap₂ ◌∷◌ e (canonical_ext xs ys c.2 d.2 (λ r i. let a = c.1 r i in let k = f r (inr i) in grind arith) (λ r i. let a = d.1 r i in let k = g r (inr i) in grind arith))
 
 -- at a place
 pub insert_split : (r : Rule) (xs ys : List Rule) → ((y : Rule) → In y xs → Earlier y r) → ((y : Rule) → In y ys → Earlier r y) → insert r (xs ++ ys) ≡ xs ++ (r ∷ ys)
@@ -126,19 +112,30 @@ unfolding insert
 insert_replace r x [] ys e a = grind (arith, nat_tests)
 insert_replace r x (y ∷ xs) ys e a = let k = a y (inl refl) in let ih = insert_replace r x xs ys e (λ y h. a y (inr h)) in grind (arith, nat_tests)
 
+-- two that go in one after the other
+pub insert_again : (r s : Rule) (R : List Rule) → Same r s → insert r (insert s R) ≡ insert r R
+unfolding insert
+insert_again r s [] e = grind (arith, nat_tests)
+insert_again r s (x ∷ xs) e = let ih = insert_again r s xs e in grind (arith, nat_tests)
+
+pub insert_swap : (r s : Rule) (R : List Rule) → (Same r s → ⊥) → insert r (insert s R) ≡ insert s (insert r R)
+unfolding insert
+insert_swap r s [] n = grind (arith, nat_tests)
+insert_swap r s (x ∷ xs) n = let ih = insert_swap r s xs n in grind (arith, same_tells, earlier_tells)
+
+-- what is deleted may go before or after another goes in
+pub delete_swap : (u v : ℕ) (r : Rule) (R : List Rule) → Canonical R → delete u v (insert r R) ≡ cond (same (range u v) r) (delete u v R) (insert r (delete u v R))
+unfolding insert delete
+delete_swap u v r [] c = grind (arith, nat_tests)
+delete_swap u v r (x ∷ xs) c =
+    let ih = delete_swap u v r xs c.2 in
+    let k : earlier r x ≡ true → insert r (delete u v xs) ≡ r ∷ delete u v xs = λ e. insert_split r [] (delete u v xs) (λ y i. elim i [ ]) (λ y i. let w = c.1 y (in_delete u v xs y i).0 in grind (arith, nat_tests)) in
+    grind (arith, nat_tests)
+
 pub delete-++ : (u v : ℕ) (xs ys : List Rule) → delete u v (xs ++ ys) ≡ delete u v xs ++ delete u v ys
 unfolding delete
 delete-++ u v [] ys = refl
 delete-++ u v (x ∷ xs) ys = let ih = delete-++ u v xs ys in grind (arith, nat_tests)
-
-pub delete_split : (r : Rule) (xs ys : List Rule) → Absent r xs → Absent r ys → delete r.start r.finish (xs ++ (r ∷ ys)) ≡ xs ++ ys
-unfolding delete
-delete_split r xs ys a b =
-    let e = delete-++ r.start r.finish xs (r ∷ ys) in
-    let f = delete_absent r.start r.finish xs a in
-    let g = delete_absent r.start r.finish ys b in
-    let h : same r r ≡ true = grind (arith, nat_tests) in
-    cc
 
 pub hop-++ : (u v : ℕ) (xs ys : List Rule) → Absent (range u v) xs → hop_of (xs ++ ys) u v ≡ hop_of ys u v
 unfolding hop_of
@@ -148,12 +145,12 @@ hop-++ u v (x ∷ xs) ys a = let k = a x (inl refl) in let ih = hop-++ u v xs ys
 -- a hop is held iff a rule is
 pub hop_in : (R : List Rule) (u v h : ℕ) → hop_of R u v ≡ Some h → (r : Rule) × (In r R × Same (range u v) r × (r.hop ≡ h))
 unfolding hop_of
-hop_in [] u v h e = let z : ◌≡◌ {A = ℕ} 0 1 = cc in absurd (omega arith)
-hop_in (x ∷ xs) u v h e = go (same_tells (range u v) x) (hop_in xs u v h)
-  where
-    go : ((same (range u v) x ≡ true) × Same (range u v) x) ⊎ ((same (range u v) x ≡ false) × (Same (range u v) x → ⊥)) → (hop_of xs u v ≡ Some h → (r : Rule) × (In r xs × Same (range u v) r × (r.hop ≡ h))) → (r : Rule) × (In r (x ∷ xs) × Same (range u v) r × (r.hop ≡ h))
-    go (inl p) ih = (x, (inl refl, p.1, cc))
-    go (inr p) ih = let k = ih (cc) in (k.0, (inr k.1.0, k.1.1, k.1.2))
+hop_in [] u v h e = cc
+hop_in (x ∷ xs) u v h e =
+    elim (same_tells (range u v) x) [
+      | inl p ↦ (x, (inl refl, p.1, cc))
+      | inr p ↦ let k = hop_in xs u v h (cc) in (k.0, (inr k.1.0, k.1.1, k.1.2))
+    ]
 
 pub in_hop : (R : List Rule) → Canonical R → (r : Rule) → In r R → hop_of R r.start r.finish ≡ Some r.hop
 unfolding hop_of
@@ -161,18 +158,7 @@ in_hop [] c r h = elim h [ ]
 in_hop (x ∷ xs) c r (inl e) = grind (arith, nat_tests)
 in_hop (x ∷ xs) c r (inr h) = let k = c.1 r h in let ih = in_hop xs c.2 r h in grind (arith, nat_tests)
 
--- hop_of tells whether a range is held
-pub hop_tells : (R : List Rule) (u v : ℕ) → ((is_some (hop_of R u v) ≡ true) × ((x : Rule) × (In x R × Same (range u v) x))) ⊎ ((is_some (hop_of R u v) ≡ false) × Absent (range u v) R)
-unfolding hop_of
-hop_tells [] u v = inr (refl, λ s h e. h)
-hop_tells (x ∷ xs) u v = go (same_tells (range u v) x) (hop_tells xs u v)
-  where
-    go : ((same (range u v) x ≡ true) × Same (range u v) x) ⊎ ((same (range u v) x ≡ false) × (Same (range u v) x → ⊥))
-        → ((is_some (hop_of xs u v) ≡ true) × ((y : Rule) × (In y xs × Same (range u v) y))) ⊎ ((is_some (hop_of xs u v) ≡ false) × Absent (range u v) xs)
-        → ((is_some (hop_of (x ∷ xs) u v) ≡ true) × ((y : Rule) × (In y (x ∷ xs) × Same (range u v) y))) ⊎ ((is_some (hop_of (x ∷ xs) u v) ≡ false) × Absent (range u v) (x ∷ xs))
-    go (inl p) q = inl (rw p.0, (x, (inl refl, p.1)))
-    go (inr p) (inl q) = inl (rw p.0 q.0, (q.1.0, (inr q.1.1.0, q.1.1.1)))
-    go (inr p) (inr q) = inr (rw p.0 q.0, λ s h e. elim h [ inl w ↦ p.1 (rw w at e) | inr m ↦ q.1 s m e ])
-
 pub absent_hop : (R : List Rule) (u v : ℕ) → is_some (hop_of R u v) ≡ false → Absent (range u v) R
-absent_hop R u v n = elim (hop_tells R u v) [ inl p ↦ absurd (let a = p.0 in let z : ◌≡◌ {A = ℕ} 0 1 = cc in omega arith) | inr p ↦ p.1 ]
+unfolding hop_of
+absent_hop [] u v n = λ s i e. i
+absent_hop (x ∷ xs) u v n = λ s i e. let ih = absent_hop xs u v in grind (arith, same_tells)

@@ -1,5 +1,5 @@
 -- What each call of a store answers and leaves.
-use Rattle.std.specs.Prelude.{ℕ, suc, ◌≤◌, cond, List, [], ◌∷◌, length, is_some, is_ok, Some, None, Ok, Err, Option, Result, nat_lt}
+use Rattle.std.specs.Prelude.{ℕ, suc, ◌≤◌, min, cond, List, [], ◌∷◌, length, is_some, is_ok, Some, None, Ok, Err, Option, Result, nat_lt}
 use Rattle.rules.specs.declared.refusal.Refusal.{Refusal}
 use Rattle.rules.specs.declared.refusal.Refusal.TheVariants.{Backwards, NotHeld, Full}
 use Rattle.rules.specs.declared.rule.Rule.{Rule as Stored}
@@ -13,6 +13,10 @@ numbered num x = rule (num x.start) (num x.finish) x.hop
 abbrev pub told : {A : Type 0} → (A → ℕ) → Option (A × A × ℕ) → Option Rule
 told num None = None
 told num (Some t) = Some (rule (num t.0) (num t.1) t.2)
+
+-- a length of rows, but 65,535 at most
+abbrev pub capped : ℕ → ℕ
+capped n = min n 65535
 
 -- what holds of every store
 pub record Sound (capacity last : ℕ) (R : List Rule) : Type 0 where

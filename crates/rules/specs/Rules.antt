@@ -1,6 +1,8 @@
 -- Rules by numbers, and sets of rules as lists in one order.
 -- Each notion has a relation, with a capital, and a test that computes, without one; the laws between them are in Laws.
 use Rattle.std.specs.Prelude.{◌≡◌, ℕ, ◌<◌, ◌≤◌, Bool, true, cond, ◌&&◌, ◌||◌, ◌⊎◌, List, [], ◌∷◌, Some, None, Option, ◌==◌, nat_le, nat_lt}
+use Rattle.std.specs.declared.cmp.Ordering.{Ordering}
+use Rattle.std.specs.declared.cmp.Ordering.TheVariants.{Less, Equal, Greater}
 
 -- A rule sends the addresses from start to finish to its hop.
 pub record Rule : Type 0 where
@@ -52,6 +54,10 @@ earlier r s = nat_lt r.finish s.finish || (r.finish == s.finish && nat_lt s.star
 
 abbrev pub same : Rule → Rule → Bool
 same r s = r.start == s.start && r.finish == s.finish
+
+-- how r and s stand in the order; rules of one range are equal, whatever their hops
+abbrev pub order : Rule → Rule → Ordering
+order r s = cond (earlier r s) Less (cond (same r s) Equal Greater)
 
 abbrev pub covers : Rule → ℕ → Bool
 covers r d = nat_le r.start d && nat_le d r.finish

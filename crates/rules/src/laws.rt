@@ -4,27 +4,23 @@ ghost use Rattle.rules.specs.Laws.{InsideLaw, EqualSetsLaw, AgreeLaw, FilledLaw,
 ghost use Rattle.rules.specs.Laws.{OrderedLaw, LeastFinishLaw, GreatestStartLaw, MostSpecificLaw, ResolvedLaw, BoundaryLaw};
 
 /// What the searches of a set find: the executable definitions mean what the relations say.
-pub fn searches() -> u8
+pub fn searches()
     ensures ordered { OrderedLaw }
     ensures least_finish { LeastFinishLaw }
     ensures greatest_start { GreatestStartLaw }
     ensures most_specific { MostSpecificLaw }
     ensures resolved { ResolvedLaw }
     ensures next_boundary { BoundaryLaw }
-{
-    0
-}
+{}
 
 /// What sets in canonical order are.
-pub fn range_sets() -> u8
+pub fn range_sets()
     ensures inside { InsideLaw }
     ensures equal { EqualSetsLaw }
-{
-    0
-}
+{}
 
 /// When a set is conflict-free, and what an update does to that.
-pub fn conflict_free_sets() -> u8
+pub fn conflict_free_sets()
     ensures agree { AgreeLaw }
     ensures filled { FilledLaw }
     ensures insertion { InsertionLaw }
@@ -32,6 +28,4 @@ pub fn conflict_free_sets() -> u8
     ensures replacement { ReplacementLaw }
     ensures whole { WholeLaw }
     ensures boundaries { WalkLaw }
-{
-    0
-}
+{}

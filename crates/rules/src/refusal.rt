@@ -7,61 +7,45 @@ ghost use Rattle.rules.specs.Refusals.{number as number_of};
 #[derive(Clone, Copy, PartialEq, Eq, Debug)]
 pub enum Refusal {
     /// Commit: the list has fewer places than the batch has changes.
-    ShortList,
+    ShortList = 1,
     /// The range has its start above its finish.
-    Backwards,
+    Backwards = 2,
     /// Making: the store already holds a rule.
-    AlreadyMade,
+    AlreadyMade = 3,
     /// A remove names the default range.
-    DefaultRange,
+    DefaultRange = 4,
     /// The range is not held.
-    NotHeld,
+    NotHeld = 5,
     /// Staging: the batch has 64 changes, or the list has no further place.
-    BatchFull,
+    BatchFull = 6,
     /// The store has no place for one more rule.
-    Full,
+    Full = 7,
     /// An address would be covered without a most specific rule.
-    Conflict,
+    Conflict = 8,
     /// Lookup: no rule covers the address.
-    Uncovered,
+    Uncovered = 9,
     /// Lookup: rules cover the address and none of them is most specific.
-    Ambiguous,
+    Ambiguous = 10,
     /// The prefix is too long for its kind, or has a bit set behind its length.
-    BadPrefix,
+    BadPrefix = 11,
     /// The feed record has an unknown kind byte.
-    UnknownRecord,
+    UnknownRecord = 12,
     /// The feed ends inside a record or inside a batch.
-    FeedEnds,
+    FeedEnds = 13,
     /// The batch head counts 0 or more than 64 changes.
-    BadCount,
+    BadCount = 14,
     /// A record inside a batch is not a change.
-    NotAChange,
+    NotAChange = 15,
     /// The hop row is shorter than its destination row, or the line buffer than 40 bytes.
-    ShortBuffer,
+    ShortBuffer = 16,
 }
 
 impl Refusal {
     /// The number by which operators know the refusal.
+    // A method and no `From`: it is asked for by name wherever it is printed.
     pub fn number(self) -> u8
         ensures { result ≡ number_of self }
     {
-        match self {
-            Refusal::ShortList => 1,
-            Refusal::Backwards => 2,
-            Refusal::AlreadyMade => 3,
-            Refusal::DefaultRange => 4,
-            Refusal::NotHeld => 5,
-            Refusal::BatchFull => 6,
-            Refusal::Full => 7,
-            Refusal::Conflict => 8,
-            Refusal::Uncovered => 9,
-            Refusal::Ambiguous => 10,
-            Refusal::BadPrefix => 11,
-            Refusal::UnknownRecord => 12,
-            Refusal::FeedEnds => 13,
-            Refusal::BadCount => 14,
-            Refusal::NotAChange => 15,
-            Refusal::ShortBuffer => 16,
-        }
+        self as u8
     }
 }

@@ -10,7 +10,12 @@ ghost use Rattle.rules.specs.Answers.{Sound, told, put_answer, put_rules, take_a
 use crate::refusal::Refusal;
 use address::AddressKind;
 
+/// How many rules a store can hold at most.
+pub const MAX_RULES: usize = 65535;
+
 /// A set of rules over one kind of address, in which no range stands twice, with room for `capacity` rules.
+// A range stands as its two ends: every caller has two addresses, and a struct would be made only to be taken apart at each call.
+// A found rule is a tuple, as lookups hand it on. `room` stands on each call that changes the store: no type says it of what a call changes.
 pub trait RangeStore {
     type Kind: AddressKind;
 
@@ -27,10 +32,8 @@ pub trait RangeStore {
         ensures { result ≡ capacity self.now };
 
     /// The hop of the range, or none if it is not held.
-    // `sound` says what every store keeps. It is a clause and no law, since an impl with a lifetime cannot owe a law.
     fn hop_of(&self, start: Self::Kind, finish: Self::Kind) -> Option<u16>
-        ensures answer { result ≡ hop_of (rules self.now) (Self.Kind.AddressKind.num start) (Self.Kind.AddressKind.num finish) }
-        ensures sound { Sound (capacity self.now) Self.Kind.AddressKind.last (rules self.now) };
+        ensures { result ≡ hop_of (rules self.now) (Self.Kind.AddressKind.num start) (Self.Kind.AddressKind.num finish) };
 
     /// Replaces the hop of a held range or enters a new one. Refuses `Backwards`, then `Full`.
     fn put(&mut self, start: Self::Kind, finish: Self::Kind, hop: u16) -> Result<(), Refusal>
@@ -55,4 +58,7 @@ pub trait RangeStore {
     /// The least address above `d` that is a start or the next after a finish; or none.
     fn next_boundary(&self, d: Self::Kind) -> Option<Self::Kind>
         ensures { option_map Self.Kind.AddressKind.num result ≡ next_boundary Self.Kind.AddressKind.last (rules self.now) (Self.Kind.AddressKind.num d) };
+
+    /// What every store keeps: a canonical set of ranges of its kind, within its capacity.
+    ghost sound: { (s : Self) → Sound (capacity s) Self.Kind.AddressKind.last (rules s) };
 }

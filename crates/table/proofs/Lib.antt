@@ -1,4 +1,3 @@
 pub mod Lookups
 pub mod Makes
-pub mod Updates
 pub mod Commits

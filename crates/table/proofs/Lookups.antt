@@ -1,8 +1,7 @@
 -- The answer of a lookup is right.
-use Rattle.std.proofs.Common.{◌≡◌, ℕ, Bool, true, false, List, Some, None, Ok, Err, Option, Result, sym, refl, inl, inr, arith}
+use Rattle.std.proofs.Common.{◌≡◌, ℕ, Bool, true, false, List, Some, None, Option, Result, refl, inl, inr, arith}
 use Rattle.rules.specs.declared.refusal.Refusal.{Refusal}
-use Rattle.rules.specs.declared.refusal.Refusal.TheVariants.{Uncovered, Ambiguous}
-use Rattle.rules.specs.Rules.{Rule, Covers, earlier, same}
+use Rattle.rules.specs.Rules.{Rule, Covers, earlier}
 use Rattle.rules.specs.Search.{Best, least_finish, greatest_start, same_found, agree}
 use Rattle.rules.specs.Conflicts.{MostSpecific}
 use Rattle.rules.proofs.Conflicts.{least_finish_is, resolved_at_decides, most_specific_sound}
@@ -36,17 +35,3 @@ lookup_right R d = go (least_finish R d) (greatest_start R d) refl refl (least_f
 
 pub right_at : (R : List Rule) (d : ℕ) (r : Result Rule Refusal) → r ≡ lookup_answer R d → Right R d r
 right_at R d r e = rw e (lookup_right R d)
-
--- the ways of a lookup, in the words that the store's answers give
-module _ (R : List Rule) (d : ℕ) where
-  pub uncovered : None ≡ least_finish R d → Err Uncovered ≡ lookup_answer R d
-  uncovered e = sym (rw (← e))
-
-  pub half_found : (f : Rule) → Some f ≡ least_finish R d → None ≡ greatest_start R d → Err Ambiguous ≡ lookup_answer R d
-  half_found f e k = sym (rw (← e, ← k))
-
-  pub one_found : (f s : Rule) → Some f ≡ least_finish R d → Some s ≡ greatest_start R d → true ≡ same f s → Ok f ≡ lookup_answer R d
-  one_found f s e k t = sym (rw (← e, ← k, ← t))
-
-  pub two_found : (f s : Rule) → Some f ≡ least_finish R d → Some s ≡ greatest_start R d → false ≡ same f s → Err Ambiguous ≡ lookup_answer R d
-  two_found f s e k t = sym (rw (← e, ← k, ← t))

@@ -6,14 +6,16 @@ ghost use Rattle.batch.specs.Changes.{changes, numbered_changes};
 ghost use Rattle.batch.specs.Staging.{count_of};
 ghost use Rattle.table.specs.Answers.{found, make_answer, make_rules, lookup_answer, Right, add_answer, add_rules, remove_answer, remove_rules, commit_answer, commit_rules};
 
-use crate::resolution::{resolved_between, same_range};
+use crate::resolution::{most_specific, resolved_between};
 use address::AddressKind;
 use batch::{Batch, Staged, apply, undo};
 use rules::{RangeStore, Refusal, is_default};
 
 /// A store as a table of rules.
+// `room` stands on each call that changes the store: no type says of a value that a call leaves a part of it as it was.
 pub trait Table: RangeStore {
     /// Enters the default range, from the first address to the last. Refuses `AlreadyMade`, then `Full`.
+    #[tactic(auto, using(crate::proofs::Makes::made_answer, crate::proofs::Makes::made_rules))]
     fn make(&mut self, hop: u16) -> Result<(), Refusal>
         ensures answer { result ≡ make_answer (Self.RangeStore.capacity self.old) (Self.RangeStore.rules self.old) }
         ensures after { Self.RangeStore.rules self.new ≡ make_rules Self.Kind.AddressKind.last (Self.RangeStore.capacity self.old) (Self.RangeStore.rules self.old) hop }
@@ -48,7 +50,7 @@ pub trait Table: RangeStore {
         ensures after { Self.RangeStore.rules self.new ≡ remove_rules Self.Kind.AddressKind.last (Self.RangeStore.rules self.old) (Self.Kind.AddressKind.num start) (Self.Kind.AddressKind.num finish) }
         ensures room { Self.RangeStore.capacity self.new ≡ Self.RangeStore.capacity self.old }
     {
-        if finish.lt(start) {
+        if finish < start {
             return Err(Refusal::Backwards);
         }
         if is_default(start, finish) {
@@ -80,26 +82,18 @@ pub trait Table: RangeStore {
         if resolved_between(self, Self::Kind::first(), Self::Kind::last()) {
             return Ok(n);
         }
-        undo(self, list, n);
+        undo(self, &list[..n]);
         Err(Refusal::Conflict)
     }
 
     /// The start, the finish and the hop of the most specific rule at `d`. Refuses `Uncovered`, then `Ambiguous`.
+    // A tuple, as what a store finds is, and no `Rule`, whose place is in a store.
+    #[tactic(auto, using(crate::proofs::Lookups::right_at))]
     fn lookup(&self, d: Self::Kind) -> Result<(Self::Kind, Self::Kind, u16), Refusal>
         ensures answer { found Self.Kind.AddressKind.num result ≡ lookup_answer (Self.RangeStore.rules self.now) (Self.Kind.AddressKind.num d) }
         ensures right { Right (Self.RangeStore.rules self.now) (Self.Kind.AddressKind.num d) (found Self.Kind.AddressKind.num result) }
     {
-        let Some(rule) = self.least_finish(d) else {
-            return Err(Refusal::Uncovered);
-        };
-        let Some(closest) = self.greatest_start(d) else {
-            return Err(Refusal::Ambiguous);
-        };
-        if same_range(&rule, &closest) {
-            Ok(rule)
-        } else {
-            Err(Refusal::Ambiguous)
-        }
+        most_specific(self, d)
     }
 }
 

@@ -3,10 +3,10 @@ use Rattle.std.proofs.Common.{◌≡◌, ℕ, zero, suc, ◌+◌, ◌-◌, ◌*�
 use native.Mathlib.Nat.{pow-succ'}
 use Rattle.std.proofs.lemmas.Bool.{cond-true, cond-false, cases_lt, eq-eqb, ne_eqb}
 use Rattle.std.proofs.lemmas.List.{get_or-map, drop_more}
+use Rattle.rules.specs.declared.rule.Rule.{Rule as Stored}
 use Rattle.tree.specs.declared.node.Node.{Node}
 use Rattle.tree.specs.Tree.{Tree, RuleTree, leaf, node, link, height, size, Balanced}
 use Rattle.tree.specs.Nodes.{cell, Holds, Held, stored_height, over, read, whole}
-use Rattle.tree.proofs.Held.{Opened}
 
 module _ {A : Type 0} (num : A → ℕ) (ns : List (Node A)) where
   pub stored_is : (k : ℕ) (t : RuleTree A) → Held num ns k t → stored_height ns k ≡ height t
@@ -19,12 +19,12 @@ module _ {A : Type 0} (num : A → ℕ) (ns : List (Node A)) where
       ∙ get_or-map (λ (n : Node _). n.height) ns (i - 1) (cell num l x r) 0 lt ∙ ap (λ (n : Node _). n.height) (H.holds.2 (cell num l x r))
 
   -- a step down a link is a step down in height
-  pub stored_falls : (k : ℕ) (t : RuleTree A) (n : Node A) → Held num ns k t → Opened num ns k t n → (stored_height ns n.left < stored_height ns k) × (stored_height ns n.right < stored_height ns k)
-  stored_falls k t n H O =
-      let h : height t ≡ max (height O.lower) (height O.upper) + 1 = ap height O.is in
+  pub stored_falls : {t l r : RuleTree A} {i : ℕ} {x : Stored A} (k left right : ℕ) → t ≡ node l i x r → Held num ns k t → Held num ns left l → Held num ns right r → (stored_height ns left < stored_height ns k) × (stored_height ns right < stored_height ns k)
+  stored_falls {t} {l} {r} k left right is H L R =
+      let h : height t ≡ max (height l) (height r) + 1 = ap height is in
       let s = stored_is k t H in
-      let sl = stored_is n.left O.lower O.below in
-      let sr = stored_is n.right O.upper O.above in
+      let sl = stored_is left l L in
+      let sr = stored_is right r R in
       (omega arith, omega arith)
 
   over_at : (below : ℕ → RuleTree A) (i : ℕ) (n : Node A) → i - 1 < length ns → get_or ns (i - 1) n ≡ n → over (drop (i - 1) ns) below i ≡ node (below n.left) i n.rule (below n.right)

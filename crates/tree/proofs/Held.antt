@@ -5,7 +5,7 @@ use Rattle.std.proofs.lemmas.List.{get_or-set_same, get_or-set_other, length-set
 use Rattle.rules.specs.declared.rule.Rule.{Rule as Stored}
 use Rattle.tree.specs.declared.node.Node.{Node}
 use Rattle.tree.specs.Tree.{RuleTree, leaf, node, link, height, uses}
-use Rattle.tree.specs.Nodes.{lesser, low_with, cell, Holds, Held, Shows, Parts, Only}
+use Rattle.tree.specs.Nodes.{low_with, cell, Holds, Held, Shows, Opened, Parted, Parts, Only}
 
 -- a node's own number
 pub own : (i : ℕ) → ◌≡◌ {A = ℕ} (cond (eqb i i) 1 0) 1
@@ -14,28 +14,18 @@ own i = ap (λ b. cond b 1 0) (eq-eqb i i refl)
 pub not_own : (i j : ℕ) → ◌≡◌ {A = ℕ} (cond (eqb i j) 1 0) 0 → j ≡ i → ⊥
 not_own i j z q = omega (arith, z, ap (λ (m : ℕ). cond {A = ℕ} (eqb m j) 1 0) (sym q), own j)
 
--- a tree behind a link that is not 0, with the node that was read there
-pub record Opened {A : Type 0} (num : A → ℕ) (ns : List (Node A)) (k : ℕ) (t : RuleTree A) (n : Node A) : Type 0 where
-  pub lower : RuleTree A
-  pub upper : RuleTree A
-  pub is : t ≡ node lower k n.rule upper
-  pub below : Held num ns n.left lower
-  pub above : Held num ns n.right upper
-  pub some : 0 < k
-  pub within : k ≤ length ns
-
 module _ {A : Type 0} (num : A → ℕ) where
-  pub opened : (ns : List (Node A)) (k : ℕ) (n : Node A) (t : RuleTree A) → Held num ns k t → Shows num t k n → Opened num ns k t n
-  opened ns k n leaf H S = absurd S
-  opened ns k n (node l i x r) H (q, c) =
+  pub parted : (ns : List (Node A)) (k : ℕ) (n : Node A) (t : RuleTree A) → Held num ns k t → Shows num t k n → Parted num t k n (Held num ns n.left) (Held num ns n.right)
+  parted ns k n leaf H S = absurd S
+  parted ns k n (node l i x r) H (q, c) =
       record {
         lower = l;
         upper = r;
         is = λ y. node l (sym q y) (sym c y).rule r;
+        some = omega (arith, H.holds.0);
+        low = ap (λ (m : Node A). m.low) c ∙ sym (ap (λ (m : Node A). low_with num l (low_with num r m.rule.start)) c);
         below = record { here = ap (λ (m : Node A). m.left) (sym c); holds = H.holds.3; apart = λ j. omega (arith, H.apart j) };
         above = record { here = ap (λ (m : Node A). m.right) (sym c); holds = H.holds.4; apart = λ j. omega (arith, H.apart j) };
-        some = omega (arith, H.holds.0);
-        within = omega (arith, H.holds.1);
       }
 
   pub none : (ns : List (Node A)) → Held num ns 0 leaf
@@ -49,21 +39,14 @@ module _ {A : Type 0} (num : A → ℕ) where
   link-within ns k leaf H = omega (arith, H.here)
   link-within ns k (node l i x r) H = omega (arith, H.here, H.holds.1)
 
-  pub shows_read : (ns : List (Node A)) (k : ℕ) (n : Node A) (t : RuleTree A) → 0 < k → n ≡ get_or ns (k - 1) n → Held num ns k t → Shows num t k n
-  shows_read ns k n leaf h q H = absurd (omega (arith, H.here))
-  shows_read ns k n (node l i x r) h q H = (sym H.here, q ∙ ap (λ m. get_or ns (m - 1) n) (sym H.here) ∙ H.holds.2 n)
+  pub opened : (ns : List (Node A)) (k : ℕ) (n : Node A) (t : RuleTree A) → Held num ns k t → Shows num t k n → Opened num ns k t (record { node = k; rule = n.rule; left = n.left; right = n.right })
+  opened ns k n t H S =
+      let P = parted ns k n t H S in
+      record { lower = P.lower; upper = P.upper; is = P.is; here = refl; below = P.below; above = P.above; some = P.some; within = link-within ns k t H }
 
   pub tall_link : (ns : List (Node A)) (k : ℕ) (t : RuleTree A) → Held num ns k t → 0 < height t → 0 < k
   tall_link ns k leaf H h = absurd (omega arith)
   tall_link ns k (node l i x r) H h = omega (arith, H.here, H.holds.0)
-
-  pub height-read : (k : ℕ) (n : Node A) (t : RuleTree A) → Shows num t k n → n.height ≡ height t
-  height-read k n leaf S = absurd S
-  height-read k n (node l i x r) S = ap (λ (m : Node A). m.height) S.1
-
-  pub low_read : (k : ℕ) (n : Node A) (t : RuleTree A) (y : A) → Shows num t k n → low_with num t y ≡ lesser num n.low y
-  low_read k n leaf y S = absurd S
-  low_read k n (node l i x r) y S = ap (λ (m : Node A). lesser num m.low y) (sym S.1)
 
   -- a tree whose places are as they were stands
   holds_kept : (ns ms : List (Node A)) (t : RuleTree A) → length ms ≡ length ns → ((j : ℕ) (d : Node A) → 0 < j → 0 < uses j t → get_or ms (j - 1) d ≡ get_or ns (j - 1) d) → Holds num ns t → Holds num ms t

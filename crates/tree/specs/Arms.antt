@@ -1,12 +1,12 @@
 -- Two nodes with one over them, as both double turns make them.
 use Rattle.std.specs.Prelude.{◌≡◌, ℕ, ◌+◌, ◌-◌, ◌<◌, ◌≤◌, cond, List, length, ◌==◌, ◌≢◌, slice_index_or}
 use Rattle.tree.specs.declared.node.Node.{Node}
-use Rattle.tree.specs.declared.turns.Arm.{Arm}
+use Rattle.tree.specs.declared.node.Branch.{Branch}
 use Rattle.tree.specs.Tree.{Tree, RuleTree, height, uses}
 use Rattle.tree.specs.Nodes.{Held}
 
 -- four trees and three places, all apart
-pub record Arms {A : Type 0} (num : A → ℕ) (ns : List (Node A)) (low high : Arm A) (top : ℕ) (a b c d : RuleTree A) : Type 0 where
+pub record Arms {A : Type 0} (num : A → ℕ) (ns : List (Node A)) (low high : Branch A) (top : ℕ) (a b c d : RuleTree A) : Type 0 where
   pub low_left : Held num ns low.left a
   pub low_right : Held num ns low.right b
   pub high_left : Held num ns high.left c

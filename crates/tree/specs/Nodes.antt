@@ -2,6 +2,7 @@
 use Rattle.std.specs.Prelude.{◌≡◌, ℕ, zero, suc, ◌+◌, ◌-◌, ◌<◌, ◌≤◌, max, cond, List, [], ◌∷◌, map, length, drop, ◌==◌, ◌≢◌, nat_lt, slice_index, slice_index_or}
 use Rattle.rules.specs.declared.rule.Rule.{Rule as Stored}
 use Rattle.tree.specs.declared.node.Node.{Node}
+use Rattle.tree.specs.declared.node.Branch.{Branch}
 use Rattle.tree.specs.Tree.{Tree, RuleTree, leaf, node, link, height, uses}
 
 -- a node to fill a row with
@@ -36,6 +37,27 @@ pub record Held {A : Type 0} (num : A → ℕ) (ns : List (Node A)) (k : ℕ) (t
 abbrev pub Shows : {A : Type 0} → (A → ℕ) → RuleTree A → ℕ → Node A → Type 0
 Shows num leaf k n = ⊥
 Shows num (node l i x r) k n = (k ≡ i) × (n ≡ cell num l x r)
+
+-- a tree behind a link that is not 0, with the node that stands there
+pub record Opened {A : Type 0} (num : A → ℕ) (ns : List (Node A)) (k : ℕ) (t : RuleTree A) (n : Branch A) : Type 0 where
+  pub lower : RuleTree A
+  pub upper : RuleTree A
+  pub here : n.node ≡ k
+  pub is : t ≡ node lower n.node n.rule upper
+  pub below : Held num ns n.left lower
+  pub above : Held num ns n.right upper
+  pub some : 0 < n.node
+  pub within : n.node ≤ length ns
+
+-- a tree whose top is the node n behind the link k, with what holds of its left and of its right tree
+pub record Parted {A : Type 0} (num : A → ℕ) (t : RuleTree A) (k : ℕ) (n : Node A) (left right : RuleTree A → Type 0) : Type 0 where
+  pub lower : RuleTree A
+  pub upper : RuleTree A
+  pub is : t ≡ node lower k n.rule upper
+  pub some : 0 < k
+  pub low : n.low ≡ low_with num lower (low_with num upper n.rule.start)
+  pub below : left lower
+  pub above : right upper
 
 -- what a node i is made of: two trees and a place, all apart
 pub record Parts {A : Type 0} (num : A → ℕ) (ns : List (Node A)) (i left right : ℕ) (l r : RuleTree A) : Type 0 where

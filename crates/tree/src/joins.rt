@@ -1,12 +1,13 @@
-//! Reading the node behind a link, and making one over two trees.
+//! Reading the node behind a link, and making one over two trees. What writes the row changes it under every link, so it takes
+//! the row and links and no `Subtree`.
 
 ghost use Rattle.std.specs.Prelude.{◌≡◌, ◌-◌, ◌<◌, ◌≤◌, length, slice_index_or, slice_set};
 ghost use Rattle.tree.specs.Tree.{RuleTree, node as node_of, height as height_of};
-ghost use Rattle.tree.specs.Nodes.{Held, Shows, low_with, Parts, Only};
+ghost use Rattle.tree.specs.Nodes.{Held, Opened, Parts, Only};
 
-use crate::node::Node;
+use crate::node::{Branch, Node};
+use crate::subtree::Subtree;
 use address::AddressKind;
-use rules::Rule;
 
 /// The node at a place of the row.
 pub fn node_at<A: AddressKind>(nodes: &[Node<A>], k: u16) -> Node<A>
@@ -16,13 +17,21 @@ pub fn node_at<A: AddressKind>(nodes: &[Node<A>], k: u16) -> Node<A>
     nodes[k as usize - 1]
 }
 
-/// The node behind a link.
-pub fn at<A: AddressKind>(nodes: &[Node<A>], k: u16) -> Node<A>
+/// The node behind a link that leads to one.
+pub(crate) fn at<A: AddressKind>(nodes: &[Node<A>], k: u16) -> Branch<A>
     requires some { 0 < k }
     requires held { (t : RuleTree A) × Held A.AddressKind.num nodes.now k t }
-    ensures { (t : RuleTree A) → Held A.AddressKind.num nodes.now k t → Shows A.AddressKind.num t k result }
+    ensures { (t : RuleTree A) → Held A.AddressKind.num nodes.now k t → Opened A.AddressKind.num nodes.now k t result }
 {
-    node_at(nodes, k)
+    Subtree { nodes, link: k }.branch().unwrap()
+}
+
+/// The height of the tree behind a link.
+pub(crate) fn height_at<A: AddressKind>(nodes: &[Node<A>], k: u16) -> u8
+    requires { ∥ ((t : RuleTree A) × Held A.AddressKind.num nodes.now k t) ∥₁ }
+    ensures { (t : RuleTree A) → Held A.AddressKind.num nodes.now k t → result ≡ height_of t }
+{
+    Subtree { nodes, link: k }.height()
 }
 
 /// Writes a place of the row.
@@ -33,46 +42,26 @@ pub fn write<A: AddressKind>(nodes: &mut [Node<A>], i: usize, n: Node<A>)
     nodes[i] = n;
 }
 
-/// The height of the tree behind a link.
-pub(crate) fn height_at<A: AddressKind>(nodes: &[Node<A>], k: u16) -> u8
-    requires { (t : RuleTree A) × Held A.AddressKind.num nodes.now k t }
-    ensures { (t : RuleTree A) → Held A.AddressKind.num nodes.now k t → result ≡ height_of t }
+/// Makes a node over two trees.
+pub fn join<A: AddressKind>(nodes: &mut [Node<A>], top: Branch<A>)
+    requires parts { (l r : RuleTree A) × Parts A.AddressKind.num nodes.old top.node top.left top.right l r × (height_of l < 255) × (height_of r < 255) }
+    ensures made { (l r : RuleTree A) → Parts A.AddressKind.num nodes.old top.node top.left top.right l r → Held A.AddressKind.num nodes.new top.node (node_of l top.node top.rule r) }
+    ensures only { Only top.node nodes.old nodes.new }
 {
-    if k == 0 { 0 } else { at(nodes, k).height }
-}
-
-/// The least of x and the starts in the tree behind a link.
-fn least_start<A: AddressKind>(nodes: &[Node<A>], k: u16, x: A) -> A
-    requires { (t : RuleTree A) × Held A.AddressKind.num nodes.now k t }
-    ensures { (t : RuleTree A) → Held A.AddressKind.num nodes.now k t → result ≡ low_with A.AddressKind.num t x }
-{
-    if k == 0 {
-        return x;
-    }
-    let low = at(nodes, k).low;
-    if x.lt(low) { x } else { low }
-}
-
-/// Makes i the node of a rule over two trees.
-pub fn join<A: AddressKind>(nodes: &mut [Node<A>], i: u16, rule: Rule<A>, left: u16, right: u16)
-    requires parts { (l r : RuleTree A) × Parts A.AddressKind.num nodes.old i left right l r × (height_of l < 255) × (height_of r < 255) }
-    ensures made { (l r : RuleTree A) → Parts A.AddressKind.num nodes.old i left right l r → Held A.AddressKind.num nodes.new i (node_of l i rule r) }
-    ensures only { Only i nodes.old nodes.new }
-{
-    let low = least_start(nodes, right, rule.start);
-    let low = least_start(nodes, left, low);
-    let hl = height_at(nodes, left);
-    let hr = height_at(nodes, right);
-    let height = if hl < hr { hr + 1 } else { hl + 1 };
-    write(
+    let left = Subtree {
         nodes,
-        i as usize - 1,
-        Node {
-            rule,
-            low,
-            left,
-            right,
-            height,
-        },
-    );
+        link: top.left,
+    };
+    let right = Subtree {
+        nodes,
+        link: top.right,
+    };
+    let node = Node {
+        rule: top.rule,
+        low: left.least_start(right.least_start(top.rule.start)),
+        left: top.left,
+        right: top.right,
+        height: left.height().max(right.height()) + 1,
+    };
+    write(nodes, top.node as usize - 1, node);
 }

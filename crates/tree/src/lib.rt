@@ -3,10 +3,10 @@
 
 mod joins;
 mod node;
-mod order;
+mod subtree;
 mod turns;
 
-pub use joins::{at, join, node_at, write};
-pub use node::Node;
-pub use order::is_before;
+pub use joins::{join, node_at, write};
+pub use node::{Branch, Node};
+pub use subtree::Subtree;
 pub use turns::balance;

@@ -6,10 +6,11 @@ use Rattle.rules.specs.declared.rule.Rule.{Rule as Stored}
 use Rattle.rules.specs.Rules.{Rule, Same, Absent, Earlier, Canonical, earlier, insert}
 use Rattle.rules.specs.Answers.{numbered}
 use Rattle.tree.specs.declared.node.Node.{Node}
+use Rattle.tree.specs.declared.node.Branch.{Branch}
 use Rattle.tree.specs.Tree.{Tree, RuleTree, leaf, node, height, uses, rules_in, before, Balanced, balance}
-use Rattle.tree.specs.Nodes.{Held, Parts, Beyond}
+use Rattle.tree.specs.Nodes.{Held, Opened, Parts, Beyond}
 use Rattle.tree.proofs.Shape.{Restored, balance_restores, balance_plain, balance-uses, balance-rules}
-use Rattle.tree.proofs.Held.{own, Opened, held_kept, none}
+use Rattle.tree.proofs.Held.{own, held_kept, none}
 use Rattle.tree.proofs.Cuts.{cut, in_left, in_right, before_true, insert-left, insert_right}
 use Rattle.tree_edits.specs.Edits.{grow}
 
@@ -81,12 +82,12 @@ one_more t i k off h =
 not_off : {X : Type 0} (t : Tree X) (i j : ℕ) → uses i t ≡ 0 → 0 < uses j t → ◌≡◌ {A = ℕ} (cond (eqb i j) 1 0) 0
 not_off t i j off h = other_own i j (λ q. let z : uses j t ≡ 0 = ap (λ m. uses m t) (sym q) ∙ off in omega arith)
 
-module _ {A : Type 0} (num : A → ℕ) (lt : Stored A → Stored A → Bool) (ns : List (Node A)) (root i : ℕ) (x : Stored A) (t : RuleTree A) (n : Node A) (H : Held num ns root t) (O : Opened num ns root t n) (off : uses i t ≡ 0) where
-  uses_is : (k : ℕ) → uses k t ≡ uses k O.lower + uses k O.upper + cond (eqb root k) 1 0
+module _ {A : Type 0} (num : A → ℕ) (lt : Stored A → Stored A → Bool) (ns : List (Node A)) (root i : ℕ) (x : Stored A) (t : RuleTree A) (n : Branch A) (H : Held num ns root t) (O : Opened num ns root t n) (off : uses i t ≡ 0) where
+  uses_is : (k : ℕ) → uses k t ≡ uses k O.lower + uses k O.upper + cond (eqb n.node k) 1 0
   uses_is k = ap (λ u. uses k u) O.is
 
   module _ (ms : List (Node A)) (k : ℕ) (q : length ms ≡ length ns) where
-    pub grow_left_parts : Held num ms k (grow lt O.lower i x) → Beyond (grow lt O.lower i x) ns ms → Parts num ms root k n.right (grow lt O.lower i x) O.upper
+    pub grow_left_parts : Held num ms k (grow lt O.lower i x) → Beyond (grow lt O.lower i x) ns ms → Parts num ms n.node k n.right (grow lt O.lower i x) O.upper
     grow_left_parts L far =
         record {
           lower = L;
@@ -96,7 +97,7 @@ module _ {A : Type 0} (num : A → ℕ) (lt : Stored A → Stored A → Bool) (n
           within = omega (arith, O.within);
         }
 
-    pub grow_right_parts : Held num ms k (grow lt O.upper i x) → Beyond (grow lt O.upper i x) ns ms → Parts num ms root n.left k O.lower (grow lt O.upper i x)
+    pub grow_right_parts : Held num ms k (grow lt O.upper i x) → Beyond (grow lt O.upper i x) ns ms → Parts num ms n.node n.left k O.lower (grow lt O.upper i x)
     grow_right_parts R far =
         record {
           lower = held_kept num ns ms n.left O.lower q (λ j d z u. far j d z (grow-uses lt O.upper i x j ∙ omega (arith, not_off O.lower i j (omega (arith, uses_is i)) u, uses_is j, H.apart j))) O.below;
@@ -106,20 +107,20 @@ module _ {A : Type 0} (num : A → ℕ) (lt : Stored A → Stored A → Bool) (n
           within = omega (arith, O.within);
         }
 
-  pub grow_left_is : lt x n.rule ≡ true → grow lt t i x ≡ balance (grow lt O.lower i x) root n.rule O.upper
+  pub grow_left_is : lt x n.rule ≡ true → grow lt t i x ≡ balance (grow lt O.lower i x) n.node n.rule O.upper
   grow_left_is h = ap (λ u. grow lt u i x) O.is ∙ cond-true _ _ _ h
 
-  pub grow_right_is : lt x n.rule ≡ false → grow lt t i x ≡ balance O.lower root n.rule (grow lt O.upper i x)
+  pub grow_right_is : lt x n.rule ≡ false → grow lt t i x ≡ balance O.lower n.node n.rule (grow lt O.upper i x)
   grow_right_is h = ap (λ u. grow lt u i x) O.is ∙ cond-false _ _ _ h
 
-  pub grow_left_beyond : (ms ls : List (Node A)) → Beyond (grow lt O.lower i x) ns ms → Beyond (node (grow lt O.lower i x) root n.rule O.upper) ms ls → Beyond (grow lt t i x) ns ls
+  pub grow_left_beyond : (ms ls : List (Node A)) → Beyond (grow lt O.lower i x) ns ms → Beyond (node (grow lt O.lower i x) n.node n.rule O.upper) ms ls → Beyond (grow lt t i x) ns ls
   grow_left_beyond ms ls far far' j d z u =
       let g = grow-uses lt t i x j in
       let h = grow-uses lt O.lower i x j in
       let s = uses_is j in
       far' j d z (omega arith) ∙ far j d z (omega arith)
 
-  pub grow_right_beyond : (ms ls : List (Node A)) → Beyond (grow lt O.upper i x) ns ms → Beyond (node O.lower root n.rule (grow lt O.upper i x)) ms ls → Beyond (grow lt t i x) ns ls
+  pub grow_right_beyond : (ms ls : List (Node A)) → Beyond (grow lt O.upper i x) ns ms → Beyond (node O.lower n.node n.rule (grow lt O.upper i x)) ms ls → Beyond (grow lt t i x) ns ls
   grow_right_beyond ms ls far far' j d z u =
       let g = grow-uses lt t i x j in
       let h = grow-uses lt O.upper i x j in

@@ -16,21 +16,6 @@ pub fn set_hop<A: AddressKind>(nodes: &mut [Node<A>], k: u16, hop: u16)
     ensures only { Only k nodes.old nodes.new }
 {
     let n = node_at(nodes, k);
-    let old = n.rule;
-    let rule = Rule {
-        start: old.start,
-        finish: old.finish,
-        hop,
-    };
-    write(
-        nodes,
-        k as usize - 1,
-        Node {
-            rule,
-            low: n.low,
-            left: n.left,
-            right: n.right,
-            height: n.height,
-        },
-    );
+    let rule = Rule { hop, ..n.rule };
+    write(nodes, k as usize - 1, Node { rule, ..n });
 }

@@ -7,7 +7,7 @@ ghost use Rattle.tree_edits.specs.Edits.{grow};
 
 use address::AddressKind;
 use rules::Rule;
-use tree::{Node, at, balance, is_before, join};
+use tree::{Branch, Node, Subtree, balance, join};
 
 /// Enters a rule, with the node i, into the tree behind `root`, and answers the link to the tree.
 pub fn insert<A: AddressKind>(nodes: &mut [Node<A>], root: u16, i: u16, rule: Rule<A>) -> u16
@@ -16,16 +16,21 @@ pub fn insert<A: AddressKind>(nodes: &mut [Node<A>], root: u16, i: u16, rule: Ru
     ensures made { (t : RuleTree A) → Held A.AddressKind.num nodes.old root t → uses i t ≡ 0 → Held A.AddressKind.num nodes.new result (grow (before A.AddressKind.num) t i rule) }
     ensures beyond { (t : RuleTree A) → Held A.AddressKind.num nodes.old root t → uses i t ≡ 0 → Beyond (grow (before A.AddressKind.num) t i rule) nodes.old nodes.new }
 {
-    if root == 0 {
-        join(nodes, i, rule, 0, 0);
+    let Some(top) = (Subtree { nodes, link: root }).branch() else {
+        let node = Branch {
+            node: i,
+            rule,
+            left: 0,
+            right: 0,
+        };
+        join(nodes, node);
         return i;
-    }
-    let n = at(nodes, root);
-    if is_before(rule, n.rule) {
-        let left = insert(nodes, n.left, i, rule);
-        balance(nodes, root, n.rule, left, n.right)
+    };
+    if rule.is_before(&top.rule) {
+        let left = insert(nodes, top.left, i, rule);
+        balance(nodes, Branch { left, ..top })
     } else {
-        let right = insert(nodes, n.right, i, rule);
-        balance(nodes, root, n.rule, n.left, right)
+        let right = insert(nodes, top.right, i, rule);
+        balance(nodes, Branch { right, ..top })
     }
 }

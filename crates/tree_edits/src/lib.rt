@@ -1,4 +1,5 @@
 //! Edits of a tree of rules in a row of nodes: a rule enters, a rule leaves, a rule gets another hop.
+//! An edit changes the row under every link, so it takes the row and a link, and no `Subtree`.
 #![tactic(auto)]
 
 mod hops;

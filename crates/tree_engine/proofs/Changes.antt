@@ -1,8 +1,9 @@
 -- What a tree is after a rule entered, left or got another hop.
-use Rattle.std.proofs.Common.{◌≡◌, ℕ, ◌+◌, ◌-◌, ◌<◌, ◌≤◌, true, false, cond, eqb, List, [], length, get_or, is_some, Some, Option, sym, refl, ap, ◌∙◌, subst, arith}
+use Rattle.std.proofs.Common.{◌≡◌, ℕ, ◌+◌, ◌-◌, ◌<◌, ◌≤◌, true, false, cond, eqb, List, [], length, get_or, is_some, Some, sym, refl, ap, ◌∙◌, subst, arith}
 use Rattle.std.proofs.lemmas.List.{length-set}
 use Rattle.std.proofs.lemmas.List.Edits.{length-remove}
 use Rattle.std.proofs.lemmas.Bool.{both_ways}
+use Rattle.std.proofs.lemmas.Bool.Decides.{nat_tests}
 use Rattle.rules.specs.declared.rule.Rule.{Rule as Stored}
 use Rattle.rules.specs.Rules.{Rule, rule, Absent, Canonical, insert, delete, hop_of, ordered}
 use Rattle.rules.specs.Answers.{numbered, place_of}
@@ -10,18 +11,17 @@ use Rattle.rules.proofs.Members.{in_hop, insert-canonical, delete-canonical}
 use Rattle.rules.proofs.Places.{ordered_decides, place_set, place-delete}
 use Rattle.mirror.proofs.Mirrors.{insert-length}
 use Rattle.tree.specs.declared.node.Node.{Node}
-use Rattle.tree.specs.Tree.{RuleTree, leaf, node, height, uses, rules_in, before, look, Balanced}
+use Rattle.tree.specs.Tree.{height, uses, rules_in, before, look, Balanced}
 use Rattle.tree.specs.Nodes.{Held, Only, Beyond, whole}
-use Rattle.tree.proofs.Held.{own, held_only, none, empty_is}
+use Rattle.tree.proofs.Held.{own, held_only, none}
 use Rattle.tree.proofs.Heights.{whole_is, whole_none}
 use Rattle.tree_edits.specs.Edits.{grow, prune, amend}
 use Rattle.tree_edits.proofs.Grows.{grow_keeps, grow-uses, grow-rules}
 use Rattle.tree_edits.proofs.Prunes.{prune_keeps, prune-uses, prune-rules}
 use Rattle.tree_edits.proofs.Amends.{amend-height, amend-uses, amend_keeps, amend-rules, look_used}
-use Rattle.tree_search.specs.Searches.{root_hop}
 use Rattle.tree_engine.specs.declared.engine.Heads.{Heads}
-use Rattle.tree_engine.specs.Kept.{Shared, Kept, capped, rules_at}
-use Rattle.tree_engine.proofs.Room.{no_mark}
+use Rattle.tree_engine.specs.Kept.{Shared, Kept, rules_at}
+use Rattle.rules.specs.Answers.{capped}
 use Rattle.tree_engine.proofs.Spares.{shared_kept, give_back}
 use Rattle.tree_engine.proofs.Seal.{Stands}
 
@@ -35,7 +35,7 @@ absent_from R r c e s i q =
 pub new_rules : {A : Type 0} (num : A → ℕ) (ns : List (Node A)) → rules_in num (whole ns 0) ≡ []
 new_rules num ns = ap (rules_in num) (whole_none ns)
 
-pub new_kept : {A : Type 0} (num : A → ℕ) (ns : List (Node A)) → Kept num ns (record { root = 0; free = 0; fresh = 0; count = 0 })
+pub new_kept : {A : Type 0} (num : A → ℕ) (ns : List (Node A)) → Kept num ns (record { root = 0; spares = record { free = 0; fresh = 0 }; count = 0 })
 unfolding ordered
 new_kept num ns =
     let e = whole_none ns in
@@ -44,7 +44,7 @@ new_kept num ns =
       balanced = subst Balanced (sym e) tt;
       order = subst (λ t. ordered (rules_in num t) ≡ true) (sym e) refl;
       counted = ap (λ t. length (rules_in num t)) e;
-      shared = record { chain = []; first = refl; links = tt; share = λ j p. ap (λ t. uses j t + 0) e ∙ omega (arith, no_mark j 0 p) };
+      shared = record { chain = []; first = refl; links = tt; share = λ j p. ap (λ t. uses j t + 0) e ∙ grind (arith, nat_tests) };
       within = omega arith;
     }
 
@@ -62,7 +62,7 @@ module _ {A : Type 0} (num : A → ℕ) (ns ms : List (Node A)) (h : Heads) (i r
   enter_rules = ap (rules_in num) grown_is ∙ grow-rules num (whole ns h.root) i x T.canonical (absent_from (rules_at num ns h) (numbered num x) T.canonical absent)
 
   pub enter_keeps : length ms ≡ length ns → (free fresh : ℕ) → Shared ns (λ j. uses j (whole ns h.root) + cond (eqb i j) 1 0) free fresh → fresh ≤ capped (length ns) → Beyond (grow (before num) (whole ns h.root) i x) ns ms
-      → Kept num ms (record { root = root; free = free; fresh = fresh; count = h.count + 1 })
+      → Kept num ms (record { root = root; spares = record { free = free; fresh = fresh }; count = h.count + 1 })
   enter_keeps q free fresh S w B =
       let t = whole ns h.root in
       record {
@@ -93,7 +93,7 @@ module _ {A : Type 0} (num : A → ℕ) (ns ms : List (Node A)) (h : Heads) (k h
         balanced = subst Balanced (sym amended_is) (amend_keeps k hop t T.balanced);
         order = ap ordered amend-rules_at ∙ (ordered_decides (insert (rule (num x.start) (num x.finish) hop) R)).1 (insert-canonical (rule (num x.start) (num x.finish) hop) R forward T.canonical);
         counted = ap length amend-rules_at ∙ ap length s.1 ∙ length-set R (place_of R (num x.start) (num x.finish)) (rule (num x.start) (num x.finish) hop) ∙ T.counted;
-        shared = shared_kept ns ms (λ j. uses j t) (λ j. uses j (whole ms h.root)) h.free h.fresh q (λ j. ap (λ v. uses j v) amended_is ∙ amend-uses k hop j t)
+        shared = shared_kept ns ms (λ j. uses j t) (λ j. uses j (whole ms h.root)) h.spares.free h.spares.fresh q (λ j. ap (λ v. uses j v) amended_is ∙ amend-uses k hop j t)
             (λ j d z u. only j d z (λ e. let w = look_used (before num) x k t (sym is) p in omega (arith, u, ap (λ v. uses j v) amended_is, amend-uses k hop j t, ap (λ (m : ℕ). uses m t) e))) K.shared;
         within = omega (arith, K.within);
       }
@@ -114,9 +114,9 @@ module _ {A : Type 0} (num : A → ℕ) (ns ms ls : List (Node A)) (h : Heads) (
   pub leave_rules : rules_in num (whole ls root) ≡ delete (num x.start) (num x.finish) (rules_at num ns h)
   leave_rules = ap (rules_in num) pruned_is ∙ prune-rules num x (whole ns h.root) T.canonical
 
-  pub leave_kept : Kept num ns h → is_some (hop_of (rules_at num ns h) (num x.start) (num x.finish)) ≡ true → i ≤ length ns → Beyond (whole ns h.root) ns ms → ((d : Node A) → (get_or ls (i - 1) d).left ≡ h.free)
-      → Kept num ls (record { root = root; free = i; fresh = h.fresh; count = h.count - 1 })
-  leave_kept K there w B linked =
+  pub leave_kept : Kept num ns h → is_some (hop_of (rules_at num ns h) (num x.start) (num x.finish)) ≡ true → i ≤ length ns → Beyond (whole ns h.root) ns ms → ((d : Node A) → (get_or ls (i - 1) d).left ≡ h.spares.free)
+      → (free fresh : ℕ) → free ≡ i → fresh ≡ h.spares.fresh → Kept num ls (record { root = root; spares = record { free = free; fresh = fresh }; count = h.count - 1 })
+  leave_kept K there w B linked free fresh a b =
       let t = whole ns h.root in
       let R = rules_at num ns h in
       let u = num x.start in
@@ -127,24 +127,12 @@ module _ {A : Type 0} (num : A → ℕ) (ns ms ls : List (Node A)) (h : Heads) (
         balanced = subst Balanced (sym pruned_is) (prune_keeps (before num) x t T.balanced).0;
         order = ap ordered leave_rules ∙ (ordered_decides (delete u v R)).1 (delete-canonical u v R T.canonical);
         counted = ap length leave_rules ∙ omega (arith, less, T.counted);
-        shared = give_back ns ls (λ j. uses j t) (λ j. uses j (whole ls root)) i h.free h.fresh (q' ∙ q) p w
+        shared = rw (a, b) (give_back ns ls (λ j. uses j t) (λ j. uses j (whole ls root)) i h.spares.free h.spares.fresh (q' ∙ q) p w
             (λ j z. ap (λ y. uses j y + cond (eqb i j) 1 0) pruned_is ∙ freed j z)
             (λ j d z off. only j d z (λ e. omega (arith, ap (λ (m : ℕ). uses m t) e, freed i p, own i)) ∙ B j d z off)
-            linked K.shared;
+            linked K.shared);
         within = omega (arith, K.within);
       }
-
--- what `find` tells of the range
-module _ {A : Type 0} (num : A → ℕ) (ns : List (Node A)) (k : ℕ) (s : RuleTree A) (H : Held num ns k s) (o : Option ℕ) (e : o ≡ root_hop s) where
-  pub missing : k ≡ 0 → is_some o ≡ false
-  missing q = ap is_some (e ∙ ap root_hop (empty_is num ns k s H q))
-
-  pub present : (k ≡ 0 → ⊥) → is_some o ≡ true
-  present n = go s H e
-    where
-      go : (s : RuleTree A) → Held num ns k s → o ≡ root_hop s → is_some o ≡ true
-      go leaf H e = absurd (n (sym H.here))
-      go (node l i x r) H e = ap is_some e
 
 pub some-rules : (R : List Rule) (u v : ℕ) → Canonical R → is_some (hop_of R u v) ≡ true → 0 < length R
 some-rules R u v c e = omega (arith, (place_set u v 0 R c e).0)

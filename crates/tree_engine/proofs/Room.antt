@@ -1,11 +1,9 @@
 -- How many numbers a tree uses.
-use Rattle.std.proofs.Common.{◌≡◌, ℕ, zero, suc, ◌+◌, ◌<◌, ◌≤◌, min, cond, eqb, leb, List, length, refl, ap, ◌∙◌, ⊎_elim, arith, length-append}
-use Rattle.std.proofs.lemmas.Bool.{cases_lt, cases_eq, cond-true, cond-false, le-leb, lt-leb}
+use Rattle.std.proofs.Common.{◌≡◌, ℕ, zero, suc, ◌+◌, ◌<◌, ◌≤◌, min, cond, eqb, leb, List, length, refl, ◌∙◌, arith, length-append}
+use Rattle.std.proofs.lemmas.Bool.Decides.{nat_tests}
 use Rattle.tree.specs.declared.node.Node.{Node}
 use Rattle.tree.specs.Tree.{Tree, RuleTree, leaf, node, size, uses, rules_in}
 use Rattle.tree.specs.Nodes.{Holds}
-use Rattle.tree.proofs.Held.{own}
-use Rattle.tree_edits.proofs.Grows.{other_own}
 
 pub rules-size : {A : Type 0} (num : A → ℕ) (t : RuleTree A) → length (rules_in num t) ≡ size t
 rules-size num leaf = refl
@@ -23,16 +21,12 @@ total (suc n) t = total n t + uses (suc n) t
 ones_past : (n i : ℕ) → n < i → ones n i ≡ 0
 unfolding ones
 ones_past zero i h = refl
-ones_past (suc n) i h = omega (arith, ones_past n i (omega arith), other_own i (suc n) (λ q. omega arith))
+ones_past (suc n) i h = grind (arith, nat_tests, ones_past n i)
 
 ones_is : (n i : ℕ) → 0 < i → i ≤ n → ones n i ≡ 1
 unfolding ones
 ones_is zero i p h = absurd (omega arith)
-ones_is (suc n) i p h =
-    ⊎_elim
-    (λ (q : i ≡ suc n). omega (arith, ones_past n i (omega arith), ap (λ (m : ℕ). cond {A = ℕ} (eqb m (suc n)) 1 0) q, own (suc n)))
-    (λ (ne : i ≡ suc n → ⊥). omega (arith, ones_is n i p (omega arith), other_own i (suc n) ne))
-    (cases_eq i (suc n))
+ones_is (suc n) i p h = grind (arith, nat_tests, ones_is n i, ones_past n i)
 
 total_leaf : (X : Type 0) (n : ℕ) → total {X = X} n leaf ≡ 0
 unfolding total
@@ -49,27 +43,13 @@ pub total_size : {A : Type 0} (num : A → ℕ) (ns : List (Node A)) (t : RuleTr
 total_size num ns leaf H = total_leaf _ (length ns)
 total_size num ns (node l i x r) (p, w, c, L, R) = total_node (length ns) l i x r ∙ omega (arith, total_size num ns l L, total_size num ns r R, ones_is (length ns) i p w)
 
--- 1 for the numbers up to n
-pub mark : (j n : ℕ) → j ≤ n → ◌≡◌ {A = ℕ} (cond (leb j n) 1 0) 1
-mark j n h = cond-true _ _ _ (le-leb j n h)
-
-pub no_mark : (j n : ℕ) → n < j → ◌≡◌ {A = ℕ} (cond (leb j n) 1 0) 0
-no_mark j n h = cond-false _ _ _ (lt-leb j n h)
-
+-- where the tree uses the numbers up to a mark, or some of them
 pub total_marks : {X : Type 0} (n fresh : ℕ) (t : Tree X) → ((j : ℕ) → 0 < j → uses j t ≡ cond (leb j fresh) 1 0) → total n t ≡ min n fresh
 unfolding total
 total_marks zero fresh t H = omega arith
-total_marks (suc n) fresh t H =
-    ⊎_elim
-    (λ (lt : fresh < suc n). omega (arith, total_marks n fresh t H, H (suc n) (omega arith), no_mark (suc n) fresh lt))
-    (λ (ge : suc n ≤ fresh). omega (arith, total_marks n fresh t H, H (suc n) (omega arith), mark (suc n) fresh ge))
-    (cases_lt fresh (suc n))
+total_marks (suc n) fresh t H = grind (arith, nat_tests, total_marks n fresh t H, H (suc n))
 
 pub total_below : {X : Type 0} (n fresh : ℕ) (t : Tree X) → ((j : ℕ) → 0 < j → uses j t ≤ cond (leb j fresh) 1 0) → total n t ≤ min n fresh
 unfolding total
 total_below zero fresh t H = omega arith
-total_below (suc n) fresh t H =
-    ⊎_elim
-    (λ (lt : fresh < suc n). omega (arith, total_below n fresh t H, H (suc n) (omega arith), no_mark (suc n) fresh lt))
-    (λ (ge : suc n ≤ fresh). omega (arith, total_below n fresh t H, H (suc n) (omega arith), mark (suc n) fresh ge))
-    (cases_lt fresh (suc n))
+total_below (suc n) fresh t H = grind (arith, nat_tests, total_below n fresh t H, H (suc n))

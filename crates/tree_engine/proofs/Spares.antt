@@ -1,31 +1,17 @@
 -- Free nodes: one is taken, one is given back, and a full tree has none.
-use Rattle.std.proofs.Common.{◌≡◌, ℕ, ◌+◌, ◌-◌, ◌<◌, ◌≤◌, min, cond, eqb, leb, List, [], ◌∷◌, length, get_or, sym, refl, ap, ◌∙◌, ⊎_elim, arith}
-use Rattle.std.proofs.lemmas.Bool.{cond_both, cases_lt, cases_eq}
+use Rattle.std.proofs.Common.{◌≡◌, ℕ, ◌+◌, ◌-◌, ◌<◌, ◌≤◌, min, cond, eqb, leb, List, [], ◌∷◌, length, get_or, sym, refl, ap, ◌∙◌, arith}
+use Rattle.std.proofs.lemmas.Bool.Decides.{nat_tests}
 use Rattle.tree.specs.declared.node.Node.{Node}
 use Rattle.tree.specs.Tree.{height, size, uses}
 use Rattle.tree.specs.Nodes.{whole}
 use Rattle.tree.proofs.Held.{own}
 use Rattle.tree.proofs.Heights.{height_bound}
-use Rattle.tree_edits.proofs.Grows.{other_own}
 use Rattle.tree_engine.specs.declared.engine.Heads.{Heads}
 use Rattle.tree_engine.specs.Kept.{front, Links, times, Shared, Kept}
-use Rattle.tree_engine.proofs.Room.{rules-size, total, total_size, total_marks, total_below, mark, no_mark}
+use Rattle.tree_engine.proofs.Room.{rules-size, total, total_size, total_marks, total_below}
 
 mark_le : (j n : ℕ) → cond (leb j n) 1 0 ≤ 1
-mark_le j n = cond_both (leb j n) 1 0 (λ w. w ≤ 1) (λ _. omega arith) (λ _. omega arith)
-
-mark_more : (j n : ℕ) → ◌≡◌ {A = ℕ} (cond (leb j (n + 1)) 1 0) (cond (leb j n) 1 0 + cond (eqb (n + 1) j) 1 0)
-mark_more j n =
-    ⊎_elim
-    (λ (q : n + 1 ≡ j). omega (arith, mark j (n + 1) (omega arith), no_mark j n (omega arith), ap (λ (m : ℕ). cond {A = ℕ} (eqb m j) 1 0) q, own j))
-    (λ (ne : n + 1 ≡ j → ⊥).
-    ⊎_elim
-    (λ (lt : j < n + 1). omega (arith, mark j (n + 1) (omega arith), mark j n (omega arith), other_own (n + 1) j ne))
-    (λ (ge : n + 1 ≤ j).
-    let gt : n + 1 < j = ⊎_elim (λ (z : n + 1 < j). z) (λ (z : j ≤ n + 1). absurd (ne (omega arith))) (cases_lt (n + 1) j) in
-    omega (arith, no_mark j (n + 1) gt, no_mark j n (omega arith), other_own (n + 1) j ne))
-    (cases_lt j (n + 1)))
-    (cases_eq (n + 1) j)
+mark_le j n = grind (arith, nat_tests)
 
 module _ {A : Type 0} where
   -- the first of the chain stands in the row
@@ -43,23 +29,6 @@ module _ {A : Type 0} where
       go : (fs : List ℕ) → front fs ≡ free → Links ns fs → ((j : ℕ) → 0 < j → u j + times j fs ≡ cond (leb j fresh) 1 0) → (j : ℕ) → 0 < j → u j ≡ cond (leb j fresh) 1 0
       go [] q L H j p = omega (arith, H j p)
       go (f ∷ fs) q L H j p = absurd (omega (arith, L.0))
-
-  -- a node is taken: a new one, or the first of the chain
-  pub take_new : (ns : List (Node A)) (u : ℕ → ℕ) (free fresh : ℕ) → free ≡ 0 → Shared ns u free fresh → Shared ns (λ j. u j + cond (eqb (fresh + 1) j) 1 0) 0 (fresh + 1)
-  take_new ns u free fresh z S = record { chain = S.chain; first = S.first ∙ z; links = S.links; share = λ j p. omega (arith, S.share j p, mark_more j fresh) }
-
-  pub take-first : (ns : List (Node A)) (u : ℕ → ℕ) (free fresh : ℕ) (n : Node A) → 0 < free → n ≡ get_or ns (free - 1) n → Shared ns u free fresh → Shared ns (λ j. u j + cond (eqb free j) 1 0) n.left fresh
-  take-first ns u free fresh n p is S = go S.chain S.first S.links S.share
-    where
-      go : (fs : List ℕ) → front fs ≡ free → Links ns fs → ((j : ℕ) → 0 < j → u j + times j fs ≡ cond (leb j fresh) 1 0) → Shared ns (λ j. u j + cond (eqb free j) 1 0) n.left fresh
-      go [] q L H = absurd (omega arith)
-      go (f ∷ fs) q L H =
-          record {
-            chain = fs;
-            first = sym (L.2 n) ∙ ap (λ (m : ℕ). (get_or ns (m - 1) n).left) q ∙ sym (ap (λ (m : Node A). m.left) is);
-            links = L.3;
-            share = λ j z. omega (arith, H j z, ap (λ (m : ℕ). cond {A = ℕ} (eqb m j) 1 0) q);
-          }
 
   links-kept : (ns ms : List (Node A)) (fs : List ℕ) → length ms ≡ length ns → ((j : ℕ) (d : Node A) → 0 < j → 0 < times j fs → get_or ms (j - 1) d ≡ get_or ns (j - 1) d) → Links ns fs → Links ms fs
   links-kept ns ms [] q same L = tt
@@ -96,17 +65,17 @@ module _ {A : Type 0} (num : A → ℕ) (ns : List (Node A)) (h : Heads) (K : Ke
   counted-size = sym (rules-size num (whole ns h.root)) ∙ K.counted
 
   -- where the chain is empty, there are as many rules as the mark says
-  pub all_used : h.free ≡ 0 → h.fresh ≡ h.count
+  pub all_used : h.spares.free ≡ 0 → h.spares.fresh ≡ h.count
   all_used z =
       let t = whole ns h.root in
-      let a : total (length ns) t ≡ min (length ns) h.fresh = total_marks (length ns) h.fresh t (none_spare ns (λ j. uses j t) h.free h.fresh K.shared z) in
+      let a : total (length ns) t ≡ min (length ns) h.spares.fresh = total_marks (length ns) h.spares.fresh t (none_spare ns (λ j. uses j t) h.spares.free h.spares.fresh K.shared z) in
       let b : total (length ns) t ≡ size t = total_size num ns t K.held.holds in
       omega (arith, counted-size, K.within)
 
-  pub few : h.count ≤ h.fresh
+  pub few : h.count ≤ h.spares.fresh
   few =
       let t = whole ns h.root in
-      let a : total (length ns) t ≤ min (length ns) h.fresh = total_below (length ns) h.fresh t (λ j p. omega (arith, K.shared.share j p)) in
+      let a : total (length ns) t ≤ min (length ns) h.spares.fresh = total_below (length ns) h.spares.fresh t (λ j p. omega (arith, K.shared.share j p)) in
       omega (arith, counted-size, total_size num ns t K.held.holds)
 
   pub low : height (whole ns h.root) < 63

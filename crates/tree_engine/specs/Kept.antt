@@ -1,14 +1,11 @@
 -- What a tree with its free nodes keeps.
-use Rattle.std.specs.Prelude.{◌≡◌, ℕ, ◌+◌, ◌-◌, ◌<◌, ◌≤◌, min, true, cond, List, [], ◌∷◌, length, ◌==◌, nat_le, slice_index_or}
+use Rattle.std.specs.Prelude.{◌≡◌, ℕ, ◌+◌, ◌-◌, ◌<◌, ◌≤◌, true, cond, List, [], ◌∷◌, length, ◌==◌, nat_le, slice_index_or}
 use Rattle.rules.specs.Rules.{Rule, ordered}
 use Rattle.tree.specs.declared.node.Node.{Node}
+use Rattle.rules.specs.Answers.{capped}
 use Rattle.tree.specs.Tree.{uses, rules_in, Balanced}
 use Rattle.tree.specs.Nodes.{Held, whole}
 use Rattle.tree_engine.specs.declared.engine.Heads.{Heads}
-
--- a row's length, but 65,535 at most
-abbrev pub capped : ℕ → ℕ
-capped n = min n 65535
 
 -- the free nodes that served before, chained by their left links
 abbrev pub front : List ℕ → ℕ
@@ -39,5 +36,5 @@ pub record Kept {A : Type 0} (num : A → ℕ) (ns : List (Node A)) (h : Heads) 
   pub balanced : Balanced (whole ns h.root)
   pub order : ordered (rules_at num ns h) ≡ true
   pub counted : length (rules_at num ns h) ≡ h.count
-  pub shared : Shared ns (λ j. uses j (whole ns h.root)) h.free h.fresh
-  pub within : h.fresh ≤ capped (length ns)
+  pub shared : Shared ns (λ j. uses j (whole ns h.root)) h.spares.free h.spares.fresh
+  pub within : h.spares.fresh ≤ capped (length ns)

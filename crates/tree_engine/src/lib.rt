@@ -4,4 +4,4 @@
 mod engine;
 mod spare;
 
-pub use engine::{Engine, Heads};
+pub use engine::Engine;

@@ -1,19 +1,18 @@
 -- The node of a range: the ways of one turn.
-use Rattle.std.proofs.Common.{◌≡◌, ℕ, true, false, List, None, sym, refl, ap, ◌∙◌, subst}
+use Rattle.std.proofs.Common.{◌≡◌, ℕ, true, false, [], None, sym, refl, ap, ◌∙◌}
 use Rattle.std.proofs.lemmas.Bool.{cond-true, cond-false}
 use Rattle.rules.specs.declared.rule.Rule.{Rule as Stored}
 use Rattle.rules.specs.Rules.{Canonical, hop_of}
 use Rattle.rules.specs.Answers.{numbered}
 use Rattle.tree.specs.declared.node.Node.{Node}
 use Rattle.tree.specs.Tree.{RuleTree, node, rules_in, before, look}
-use Rattle.tree.specs.Nodes.{Held}
-use Rattle.tree.proofs.Held.{Opened, empty_is}
+use Rattle.tree.specs.Nodes.{Parted}
 use Rattle.tree.proofs.Cuts.{before_true, before_neither, hop-left, hop_right, hop-here}
 use Rattle.tree_search.specs.Searches.{root_hop}
 use Rattle.tree_search.proofs.Firsts.{cut_at}
 
-module _ {A : Type 0} (num : A → ℕ) (ns : List (Node A)) (k : ℕ) (u : RuleTree A) where
-  module _ (n : Node A) (O : Opened num ns k u n) (x : Stored A) where
+module _ {A : Type 0} (num : A → ℕ) {k : ℕ} {u : RuleTree A} where
+  module _ {n : Node A} {B C : RuleTree A → Type 0} (O : Parted num u k n B C) (x : Stored A) where
     hops-are : hop_of (rules_in num u) (num x.start) (num x.finish) ≡ hop_of (rules_in num (node O.lower k n.rule O.upper)) (num x.start) (num x.finish)
     hops-are = ap (λ t. hop_of (rules_in num t) (num x.start) (num x.finish)) O.is
 
@@ -22,7 +21,7 @@ module _ {A : Type 0} (num : A → ℕ) (ns : List (Node A)) (k : ℕ) (u : Rule
         × (Canonical (rules_in num u) → Canonical (rules_in num O.lower) × (hop_of (rules_in num u) (num x.start) (num x.finish) ≡ hop_of (rules_in num O.lower) (num x.start) (num x.finish)))
     find-left h = (
       ap (look (before num) x) O.is ∙ cond-true _ _ _ h,
-      λ c. let C = cut_at num ns k u n O c in (C.left, hops-are ∙ hop-left (numbered num x) (rules_in num O.lower) (numbered num n.rule) (rules_in num O.upper) C (before_true (numbered num x) (numbered num n.rule) h)),
+      λ c. let C = cut_at num O c in (C.left, hops-are ∙ hop-left (numbered num x) (rules_in num O.lower) (numbered num n.rule) (rules_in num O.upper) C (before_true (numbered num x) (numbered num n.rule) h)),
     )
 
     pub find-right : before num x n.rule ≡ false → before num n.rule x ≡ true
@@ -30,19 +29,16 @@ module _ {A : Type 0} (num : A → ℕ) (ns : List (Node A)) (k : ℕ) (u : Rule
         × (Canonical (rules_in num u) → Canonical (rules_in num O.upper) × (hop_of (rules_in num u) (num x.start) (num x.finish) ≡ hop_of (rules_in num O.upper) (num x.start) (num x.finish)))
     find-right h h' = (
       ap (look (before num) x) O.is ∙ cond-false _ _ _ h ∙ cond-true _ _ _ h',
-      λ c. let C = cut_at num ns k u n O c in (C.right, hops-are ∙ hop_right (numbered num x) (rules_in num O.lower) (numbered num n.rule) (rules_in num O.upper) C (before_true (numbered num n.rule) (numbered num x) h')),
+      λ c. let C = cut_at num O c in (C.right, hops-are ∙ hop_right (numbered num x) (rules_in num O.lower) (numbered num n.rule) (rules_in num O.upper) C (before_true (numbered num n.rule) (numbered num x) h')),
     )
 
     pub find-here : before num x n.rule ≡ false → before num n.rule x ≡ false
         → (look (before num) x u ≡ k) × (Canonical (rules_in num u) → hop_of (rules_in num u) (num x.start) (num x.finish) ≡ root_hop u)
     find-here h h' = (
       ap (look (before num) x) O.is ∙ cond-false _ _ _ h ∙ cond-false _ _ _ h',
-      λ c. hops-are ∙ hop-here (numbered num x) (rules_in num O.lower) (numbered num n.rule) (rules_in num O.upper) (cut_at num ns k u n O c) (before_neither (numbered num x) (numbered num n.rule) h h') ∙ sym (ap root_hop O.is),
+      λ c. hops-are ∙ hop-here (numbered num x) (rules_in num O.lower) (numbered num n.rule) (rules_in num O.upper) (cut_at num O c) (before_neither (numbered num x) (numbered num n.rule) h h') ∙ sym (ap root_hop O.is),
     )
 
-  pub find_none : (x : Stored A) → Held num ns k u → k ≡ 0 → (look (before num) x u ≡ 0) × (hop_of (rules_in num u) (num x.start) (num x.finish) ≡ root_hop u) × Held num ns 0 u
-  unfolding hop_of
-  find_none x H q = let e = empty_is num ns k u H q in (ap (look (before num) x) e, subst (λ t. hop_of (rules_in num t) (num x.start) (num x.finish) ≡ root_hop t) (sym e) refl, subst (λ j. Held num ns j u) q H)
-
-pub root_none : {A : Type 0} (num : A → ℕ) (ns : List (Node A)) (k : ℕ) (s : RuleTree A) → Held num ns k s → k ≡ 0 → None ≡ root_hop s
-root_none num ns k s H q = sym (ap root_hop (empty_is num ns k s H q))
+pub no_hop : (u v : ℕ) → hop_of [] u v ≡ None
+unfolding hop_of
+no_hop u v = refl

@@ -7,7 +7,7 @@ use Rattle.rules.specs.Answers.{numbered}
 use Rattle.mirror.specs.Mirrored.{or_else, finish_from, finish_before}
 use Rattle.tree.specs.declared.node.Node.{Node}
 use Rattle.tree.specs.Tree.{RuleTree, rules_in}
-use Rattle.tree.proofs.Held.{Opened}
+use Rattle.tree.specs.Nodes.{Parted}
 use Rattle.tree.proofs.Cuts.{Cut}
 use Rattle.tree_search.proofs.Firsts.{else_assoc, cut_at}
 
@@ -42,14 +42,14 @@ before_none d (x ∷ xs) f =
     let q : ltb x.finish d ≡ false = grind (arith, nat_tests) in
     ap (λ o. or_else o (cond (ltb x.finish d) (Some x.finish) None)) (before_none d xs (λ y i. f y (inr i))) ∙ cond-false _ _ _ q
 
-module _ {A : Type 0} (num : A → ℕ) (ns : List (Node A)) (k : ℕ) (u : RuleTree A) (n : Node A) (O : Opened num ns k u n) (c : Canonical (rules_in num u)) (d : ℕ) (T o : Option ℕ) where
+module _ {A : Type 0} (num : A → ℕ) {k : ℕ} {u : RuleTree A} {n : Node A} {B C : RuleTree A → Type 0} (O : Parted num u k n B C) (c : Canonical (rules_in num u)) (d : ℕ) (T o : Option ℕ) where
   rules_are : rules_in num u ≡ rules_in num O.lower ++ (numbered num n.rule ∷ rules_in num O.upper)
   rules_are = ap (rules_in num) O.is
 
   pub from_right : true ≡ ltb (num n.rule.finish) d → T ≡ or_else (finish_from (rules_in num u) d) o → T ≡ or_else (finish_from (rules_in num O.upper) d) o
   unfolding finish_from
   from_right q e =
-      let C = cut_at num ns k u n O c in
+      let C = cut_at num O c in
       let y : leb d (num n.rule.finish) ≡ false = grind (arith, nat_tests) in
       e ∙ ap (λ w. or_else w o)
       (ap (λ w. finish_from w d) rules_are ∙ from-++ d (rules_in num O.lower) (numbered num n.rule ∷ rules_in num O.upper)
@@ -79,7 +79,7 @@ module _ {A : Type 0} (num : A → ℕ) (ns : List (Node A)) (k : ℕ) (u : Rule
 
   pub before-left : false ≡ ltb (num n.rule.finish) d → T ≡ or_else (finish_before (rules_in num u) d) o → T ≡ or_else (finish_before (rules_in num O.lower) d) o
   before-left q e =
-      let C = cut_at num ns k u n O c in
+      let C = cut_at num O c in
       e ∙ ap (λ w. or_else w o)
       (ap (λ w. finish_before w d) rules_are ∙ before-++ d (rules_in num O.lower) (numbered num n.rule ∷ rules_in num O.upper)
       ∙ ap (λ w. or_else w (finish_before (rules_in num O.lower) d)) (before_none d (numbered num n.rule ∷ rules_in num O.upper) (λ x i. later x i C)))

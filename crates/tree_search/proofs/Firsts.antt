@@ -1,7 +1,7 @@
 -- The first rule that covers an address, in a list cut at a rule.
 use Rattle.std.proofs.Common.{◌≡◌, ℕ, ◌≤◌, Bool, true, false, cond, ◌||◌, ltb, leb, List, [], ◌∷◌, ◌++◌, Some, None, Option, sym, refl, ap, ◌∙◌, subst, inl, inr, arith}
 use Rattle.std.proofs.lemmas.Bool.Decides.{nat_tests}
-use Rattle.std.proofs.lemmas.Bool.{cond_both, cond-false, or_parts}
+use Rattle.std.proofs.lemmas.Bool.{cond_both, cond-true, cond-false, or_parts}
 use Rattle.rules.specs.declared.rule.Rule.{Rule as Stored}
 use Rattle.rules.specs.Rules.{Rule, In, Canonical, covers}
 use Rattle.rules.specs.Search.{least_finish}
@@ -10,10 +10,9 @@ use Rattle.rules.proofs.Places.{first, first_is_best}
 use Rattle.mirror.specs.Mirrored.{or_else}
 use Rattle.tree.specs.declared.node.Node.{Node}
 use Rattle.tree.specs.Tree.{RuleTree, leaf, node, rules_in}
-use Rattle.tree.specs.Nodes.{lesser, low_with, Shows, Held}
-use Rattle.tree.proofs.Held.{Opened, empty_is}
+use Rattle.tree.specs.Nodes.{lesser, low_with, Shows, Parted}
 use Rattle.tree.proofs.Cuts.{Cut, cut}
-use Rattle.tree_search.specs.Searches.{starts_by, rest, any, first_with}
+use Rattle.tree_search.specs.Searches.{starts_by, any, first_with}
 
 -- lists
 pub else_none : {X : Type 0} (o : Option X) → o ≡ or_else o None
@@ -71,7 +70,7 @@ unfolding first_with first
 first_is p [] = refl
 first_is p (x ∷ xs) = ap (λ o. cond (p x) (Some x) o) (first_is p xs)
 
-pub least_is_first : (R : List Rule) (d : ℕ) → Canonical R → least_finish R d ≡ first_with (λ r. covers r d) R
+least_is_first : (R : List Rule) (d : ℕ) → Canonical R → least_finish R d ≡ first_with (λ r. covers r d) R
 least_is_first R d c = first_is_best (λ r. covers r d) R c ∙ sym (first_is (λ r. covers r d) R)
 
 -- the least start tells whether a rule starts by d
@@ -108,11 +107,8 @@ module _ {A : Type 0} (num : A → ℕ) (d : ℕ) where
   reach_tells k n leaf S = absurd S
   reach_tells k n (node l i x r) S = ap (λ (m : Node A). leb (num m.low) d) S.1 ∙ root_tells l x r (low_tells l (low_with num r x.start)) (low_tells r x.start)
 
-  pub not_before : (x : A) → (b : Bool) → b ≡ ltb d (num x) → leb (num x) d ≡ cond b false true
-  not_before x b e = grind (arith, nat_tests)
-
 -- at a node
-module _ {A : Type 0} (num : A → ℕ) (ns : List (Node A)) (k : ℕ) (u : RuleTree A) (n : Node A) (O : Opened num ns k u n) where
+module _ {A : Type 0} (num : A → ℕ) {k : ℕ} {u : RuleTree A} {n : Node A} {B C : RuleTree A → Type 0} (O : Parted num u k n B C) where
   abbrev L : List Rule
   L = rules_in num O.lower
 
@@ -125,9 +121,6 @@ module _ {A : Type 0} (num : A → ℕ) (ns : List (Node A)) (k : ℕ) (u : Rule
   rules_are : rules_in num u ≡ rules_in num O.lower ++ (numbered num n.rule ∷ rules_in num O.upper)
   rules_are = ap (rules_in num) O.is
 
-  pub rest_is : rest num u ≡ numbered num n.rule ∷ rules_in num O.upper
-  rest_is = ap (rest num) O.is
-
   -- the first that starts by d
   module _ (d : ℕ) where
     pub started-left : any (starts_by d) L ≡ true → first_with (starts_by d) (rules_in num u) ≡ first_with (starts_by d) (rules_in num O.lower)
@@ -136,27 +129,13 @@ module _ {A : Type 0} (num : A → ℕ) (ns : List (Node A)) (k : ℕ) (u : Rule
     started-on : any (starts_by d) L ≡ false → first_with (starts_by d) (rules_in num u) ≡ first_with (starts_by d) (numbered num n.rule ∷ R)
     started-on e = ap (first_with (starts_by d)) rules_are ∙ first-++ (starts_by d) L (numbered num n.rule ∷ R) ∙ ap (λ o. or_else o (first_with (starts_by d) (numbered num n.rule ∷ R))) (none_first (starts_by d) L e)
 
-    pub here-first : (b : Bool) → b ≡ ltb d (num n.rule.start) → first_with (starts_by d) (numbered num n.rule ∷ R) ≡ cond b (first_with (starts_by d) R) (Some (numbered num n.rule))
+    pub started-here : any (starts_by d) L ≡ false → true ≡ leb (num n.rule.start) d → first_with (starts_by d) (rules_in num u) ≡ Some (numbered num n.rule)
     unfolding first_with
-    here-first b e = ap (λ z. cond z (Some (numbered num n.rule)) (first_with (starts_by d) R)) (not_before num d n.rule.start b e) ∙ turn b
-      where
-        turn : (b : Bool) → cond (cond b false true) (Some (numbered num n.rule)) (first_with (starts_by d) R) ≡ cond b (first_with (starts_by d) R) (Some (numbered num n.rule))
-        turn true = refl
-        turn false = refl
+    started-here e q = started-on e ∙ cond-true _ _ _ (sym q)
 
-    pub here-any : (b : Bool) → b ≡ ltb d (num n.rule.start) → any (starts_by d) (rest num u) ≡ cond b (any (starts_by d) R) true
-    unfolding any
-    here-any b e = ap (any (starts_by d)) rest_is ∙ ap (λ z. z || any (starts_by d) R) (not_before num d n.rule.start b e) ∙ turn b
-      where
-        turn : (b : Bool) → (cond b false true || any (starts_by d) R) ≡ cond b (any (starts_by d) R) true
-        turn true = refl
-        turn false = refl
-
-    pub started-here : any (starts_by d) L ≡ false → false ≡ ltb d (num n.rule.start) → first_with (starts_by d) (rules_in num u) ≡ Some (numbered num n.rule)
-    started-here e q = started-on e ∙ here-first false q
-
-    pub started-right : any (starts_by d) L ≡ false → true ≡ ltb d (num n.rule.start) → first_with (starts_by d) (rules_in num u) ≡ first_with (starts_by d) (rules_in num O.upper)
-    started-right e q = started-on e ∙ here-first true q
+    pub started-right : any (starts_by d) L ≡ false → false ≡ leb (num n.rule.start) d → first_with (starts_by d) (rules_in num u) ≡ first_with (starts_by d) (rules_in num O.upper)
+    unfolding first_with
+    started-right e q = started-on e ∙ cond-false _ _ _ (sym q)
 
     -- the first that covers d
     module _ (c : Canonical (rules_in num u)) where
@@ -170,13 +149,12 @@ module _ {A : Type 0} (num : A → ℕ) (ns : List (Node A)) (k : ℕ) (u : Rule
           ∙ ap (λ o. or_else o (first_with (λ r. covers r d) (Y ∷ R))) (first_none (λ r. covers r d) L (λ x i. let b = C.below x i in grind (arith, nat_tests)))
           ∙ cond-false _ _ _ y
 
-      pub cover-left : false ≡ ltb (num n.rule.finish) d → first_with (λ r. covers r d) (rules_in num u) ≡ or_else (first_with (λ r. covers r d) (rules_in num O.lower)) (first_with (starts_by d) (rest num u))
+      pub cover-left : false ≡ ltb (num n.rule.finish) d → first_with (λ r. covers r d) (rules_in num u) ≡ or_else (first_with (λ r. covers r d) (rules_in num O.lower)) (first_with (starts_by d) (numbered num n.rule ∷ rules_in num O.upper))
       cover-left q =
           let C = cut_at c in
           let Y = numbered num n.rule in
           ap (first_with (λ r. covers r d)) rules_are ∙ first-++ (λ r. covers r d) L (Y ∷ R)
           ∙ ap (λ o. or_else (first_with (λ r. covers r d) L) o) (first-same (λ r. covers r d) (starts_by d) (Y ∷ R) (λ x i. late x (later x i C)))
-          ∙ ap (λ w. or_else (first_with (λ r. covers r d) L) (first_with (starts_by d) w)) (sym rest_is)
         where
           late : (x : Rule) → d ≤ x.finish → covers x d ≡ starts_by d x
           late x h = grind (arith, nat_tests)
@@ -185,28 +163,42 @@ module _ {A : Type 0} (num : A → ℕ) (ns : List (Node A)) (k : ℕ) (u : Rule
           later x (inl e) C = let z = ap (λ (y : Rule). y.finish) e in grind (arith, nat_tests)
           later x (inr i) C = let a = C.above x i in grind (arith, nat_tests)
 
--- one turn to the left: the marked node is u itself where something of it starts by d, else the one before
-pub mark_on : {A : Type 0} (num : A → ℕ) (d : ℕ) (u v : RuleTree A) (T S : Option Rule) → T ≡ or_else (or_else S (first_with (starts_by d) (rest num u))) (first_with (starts_by d) (rest num v))
-    → (b : Bool) → any (starts_by d) (rest num u) ≡ b → T ≡ or_else S (first_with (starts_by d) (rest num (cond b u v)))
-mark_on num d u v T S e true q = e ∙ else_assoc S (first_with (starts_by d) (rest num u)) (first_with (starts_by d) (rest num v)) ∙ ap (or_else S) (some_first (starts_by d) (rest num u) (first_with (starts_by d) (rest num v)) q)
-mark_on num d u v T S e false q = e ∙ else_assoc S (first_with (starts_by d) (rest num u)) (first_with (starts_by d) (rest num v)) ∙ ap (λ o. or_else S (or_else o (first_with (starts_by d) (rest num v)))) (none_first (starts_by d) (rest num u) q)
+-- one turn to the left: the node and what stands right of it is marked where something of it starts by d
+module _ (p : Rule → Bool) (T S : Option Rule) (N M : List Rule) (e : T ≡ or_else (or_else S (first_with p N)) (first_with p M)) where
+  pub mark_new : any p N ≡ true → T ≡ or_else S (first_with p N)
+  mark_new q = e ∙ else_assoc S (first_with p N) (first_with p M) ∙ ap (or_else S) (some_first p N (first_with p M) q)
 
-pub mark_held : {A : Type 0} (num : A → ℕ) (ns : List (Node A)) (k j : ℕ) (u v : RuleTree A) (b : Bool) → Held num ns k u → Held num ns j v → Held num ns (cond b k j) (cond b u v)
-mark_held num ns k j u v true H K = H
-mark_held num ns k j u v false H K = K
+  pub mark_old : any p N ≡ false → T ≡ or_else S (first_with p M)
+  mark_old q = e ∙ else_assoc S (first_with p N) (first_with p M) ∙ ap (λ o. or_else S (or_else o (first_with p M))) (none_first p N q)
 
 pub first_empty : (p : Rule → Bool) → first_with p [] ≡ None
 unfolding first_with
 first_empty p = refl
 
-pub reach_none : {A : Type 0} (num : A → ℕ) (ns : List (Node A)) (k : ℕ) (t : RuleTree A) (p : Rule → Bool) → Held num ns k t → k ≡ 0 → false ≡ any p (rules_in num t)
+pub any_empty : (p : Rule → Bool) → any p [] ≡ false
 unfolding any
-reach_none num ns k t p H q = sym (ap (λ u. any p (rules_in num u)) (empty_is num ns k t H q))
+any_empty p = refl
 
-pub none_left : {A : Type 0} (num : A → ℕ) (ns : List (Node A)) (k : ℕ) (t : RuleTree A) (p : Rule → Bool) → Held num ns k t → k ≡ 0 → (first_with p (rules_in num t) ≡ None) × (first_with p (rest num t) ≡ None)
+pub first_on : (p : Rule → Bool) (x : Rule) (xs : List Rule) → p x ≡ true → first_with p (x ∷ xs) ≡ Some x
 unfolding first_with
-none_left num ns k t p H q = let e = empty_is num ns k t H q in (ap (λ u. first_with p (rules_in num u)) e, ap (λ u. first_with p (rest num u)) e)
+first_on p x xs q = cond-true _ _ _ q
 
-pub covering_start : {A : Type 0} (num : A → ℕ) (d : ℕ) (o : Option Rule) → o ≡ or_else o (first_with (starts_by d) (rest {A = A} num leaf))
+pub first_off : (p : Rule → Bool) (x : Rule) (xs : List Rule) → p x ≡ false → first_with p (x ∷ xs) ≡ first_with p xs
 unfolding first_with
-covering_start num d o = else_none o
+first_off p x xs q = cond-false _ _ _ q
+
+pub any_on : (p : Rule → Bool) (x : Rule) (xs : List Rule) → p x ≡ true → any p (x ∷ xs) ≡ true
+unfolding any
+any_on p x xs q = ap (λ b. b || any p xs) q
+
+pub any_off : (p : Rule → Bool) (x : Rule) (xs : List Rule) → p x ≡ false → any p (x ∷ xs) ≡ any p xs
+unfolding any
+any_off p x xs q = ap (λ b. b || any p xs) q
+
+-- where the descent ends the marked rule and what stands right of it decide
+pub covering_end : {A : Type 0} (num : A → ℕ) (d : ℕ) (t u : RuleTree A) (M : List Rule) → Canonical (rules_in num t)
+    → first_with (λ r. covers r d) (rules_in num t) ≡ or_else (first_with (λ r. covers r d) (rules_in num u)) (first_with (starts_by d) M) → u ≡ leaf
+    → least_finish (rules_in num t) d ≡ first_with (starts_by d) M
+covering_end num d t u M C e q =
+    least_is_first (rules_in num t) d C ∙ e ∙ ap (λ v. or_else (first_with (λ r. covers r d) (rules_in num v)) (first_with (starts_by d) M)) q
+    ∙ ap (λ o. or_else o (first_with (starts_by d) M)) (first_empty (λ r. covers r d))

@@ -1,8 +1,7 @@
 -- Words of the searches in a tree.
 use Rattle.std.specs.Prelude.{ℕ, Bool, false, cond, ◌||◌, List, [], ◌∷◌, Some, None, Option, nat_le}
 use Rattle.rules.specs.Rules.{Rule}
-use Rattle.rules.specs.Answers.{numbered}
-use Rattle.tree.specs.Tree.{RuleTree, leaf, node, rules_in}
+use Rattle.tree.specs.Tree.{RuleTree, leaf, node}
 
 -- the hop of a tree's root
 abbrev pub root_hop : {A : Type 0} → RuleTree A → Option ℕ
@@ -11,11 +10,6 @@ root_hop (node l i x r) = Some x.hop
 
 abbrev pub starts_by : ℕ → Rule → Bool
 starts_by d r = nat_le r.start d
-
--- a tree's root and what stands right of it
-abbrev pub rest : {A : Type 0} → (A → ℕ) → RuleTree A → List Rule
-rest num leaf = []
-rest num (node l i x r) = numbered num x ∷ rules_in num r
 
 -- whether a rule passes
 unfoldable pub any : (Rule → Bool) → List Rule → Bool

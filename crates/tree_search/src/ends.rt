@@ -8,43 +8,38 @@ ghost use Rattle.tree.specs.Tree.{RuleTree, rules_in};
 ghost use Rattle.tree.specs.Nodes.{Held};
 
 use address::AddressKind;
-use tree::{Node, at};
+use tree::Subtree;
 
 /// The least finish from d on, or none.
-pub fn finish_from<A: AddressKind>(nodes: &[Node<A>], root: u16, d: A) -> Option<A>
-    requires { (t : RuleTree A) × Held A.AddressKind.num nodes.now root t × Canonical (rules_in A.AddressKind.num t) }
-    ensures { (t : RuleTree A) → Held A.AddressKind.num nodes.now root t → Canonical (rules_in A.AddressKind.num t) → option_map A.AddressKind.num result ≡ finish_from (rules_in A.AddressKind.num t) (A.AddressKind.num d) }
+pub fn finish_from<A: AddressKind>(tree: Subtree<A>, d: A) -> Option<A>
+    ensures { (t : RuleTree A) → Held A.AddressKind.num tree.entry.nodes.now tree.entry.link t → Canonical (rules_in A.AddressKind.num t) → option_map A.AddressKind.num result ≡ finish_from (rules_in A.AddressKind.num t) (A.AddressKind.num d) }
 {
-    let mut k = root;
+    let mut tree = tree;
     let mut found = None;
-    while k != 0 {
-        let n = at(nodes, k);
-        let r = n.rule;
-        if r.finish.lt(d) {
-            k = n.right;
+    while let Some((n, left, right)) = tree.split() {
+        if n.rule.finish < d {
+            tree = right;
         } else {
-            found = Some(r.finish);
-            k = n.left;
+            found = Some(n.rule.finish);
+            tree = left;
         }
     }
     found
 }
 
 /// The greatest finish before d, or none.
-pub fn finish_before<A: AddressKind>(nodes: &[Node<A>], root: u16, d: A) -> Option<A>
-    requires { (t : RuleTree A) × Held A.AddressKind.num nodes.now root t × Canonical (rules_in A.AddressKind.num t) }
-    ensures { (t : RuleTree A) → Held A.AddressKind.num nodes.now root t → Canonical (rules_in A.AddressKind.num t) → option_map A.AddressKind.num result ≡ finish_before (rules_in A.AddressKind.num t) (A.AddressKind.num d) }
+// The other way round than the search above: one function for both would choose by a flag at each node.
+pub fn finish_before<A: AddressKind>(tree: Subtree<A>, d: A) -> Option<A>
+    ensures { (t : RuleTree A) → Held A.AddressKind.num tree.entry.nodes.now tree.entry.link t → Canonical (rules_in A.AddressKind.num t) → option_map A.AddressKind.num result ≡ finish_before (rules_in A.AddressKind.num t) (A.AddressKind.num d) }
 {
-    let mut k = root;
+    let mut tree = tree;
     let mut latest = None;
-    while k != 0 {
-        let n = at(nodes, k);
-        let r = n.rule;
-        if r.finish.lt(d) {
-            latest = Some(r.finish);
-            k = n.right;
+    while let Some((n, left, right)) = tree.split() {
+        if n.rule.finish < d {
+            latest = Some(n.rule.finish);
+            tree = right;
         } else {
-            k = n.left;
+            tree = left;
         }
     }
     latest

@@ -1,11 +1,6 @@
-//! Tree stores: rules as two balanced trees in the caller's memory, a store for each kind of address.
+//! The tree store: rules as two balanced trees in the caller's memory, for every kind of address.
 #![tactic(auto)]
 
-mod ipv4_tree;
-mod ipv6_tree;
-mod pair;
-mod port_tree;
+mod store;
 
-pub use ipv4_tree::Ipv4Tree;
-pub use ipv6_tree::Ipv6Tree;
-pub use port_tree::PortTree;
+pub use store::{Ipv4Tree, Ipv6Tree, PortTree, TreeStore};

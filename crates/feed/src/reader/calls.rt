@@ -14,6 +14,7 @@ use byte_form::FeedKind;
 use rules::Refusal;
 use std::marker::PhantomData;
 
+// `same` stands on each call that reads on: no type says of a value that a call leaves a part of it as it was.
 impl<'a, A: FeedKind> Reader<'a, A> {
     /// A reader at the first byte of the feed.
     pub fn new(feed: &'a [u8]) -> Reader<'a, A>
@@ -68,9 +69,7 @@ impl<'a, A: FeedKind> Reader<'a, A> {
         ensures same { self.new.feed ≡ self.old.feed }
     {
         let place = self.place;
-        let Some((record, rest)) = decode(self.unread())? else {
-            return Err(Refusal::FeedEnds);
-        };
+        let (record, rest) = decode(self.unread())?.ok_or(Refusal::FeedEnds)?;
         let Record::Change(change) = record else {
             return Err(Refusal::NotAChange);
         };

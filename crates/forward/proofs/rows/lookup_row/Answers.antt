@@ -2,7 +2,7 @@
 use Rattle.std.proofs.Common.{◌≡◌, [], length, drop, subst, arith}
 use Rattle.std.proofs.lemmas.List.{at_drop_all}
 use Rattle.address.specs.Numbers.{ipv4_num}
-use Rattle.table.specs.Answers.{told_rule}
+use Rattle.rules.specs.Rules.{rule}
 use Rattle.forward.specs.Rows.{hops_of}
 use Rattle.forward.proofs.Steps.{Done, more, stop, done}
 use Rattle.forward.proofs.rows.lookup_row.Goals as goal
@@ -18,7 +18,7 @@ returns-in_default g c =
 pub loop-i-preserved : goal.loop-i-preserved
 loop-i-preserved g c =
     let R = g.S.RangeStore.rules c.args.table.now in
-    more R c.args.destinations.now c.args.hops.now c.loop-i.hops c.loop-i.i (ipv4_num c.new.result) (told_rule ipv4_num c.in-Ok.rule)
+    more R c.args.destinations.now c.args.hops.now c.loop-i.hops c.loop-i.i (ipv4_num c.new.result) (rule (ipv4_num c.in-Ok.field-0-0) (ipv4_num c.in-Ok.field-0-1) c.in-Ok.hop)
     (omega arith) (omega arith) c.new.ensures c.in-Ok.ensures.answer c.loop-i.invariant
 
 pub returns : goal.returns

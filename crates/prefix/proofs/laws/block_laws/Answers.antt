@@ -1,8 +1,10 @@
--- The rule of the blocks and their edges are computed over the whole table.
-use Rattle.std.proofs.Common.{refl}
+-- Every block is a prefix by one test of the table, and the test of an address finds one.
 use Rattle.prefix.specs.Blocks.{blocks}
 use Rattle.prefix.proofs.Tables.{blocks-valid, some_decides}
 use Rattle.prefix.proofs.laws.block_laws.Goals as goal
 
-pub returns : goal.returns
-returns c = record { blocks = blocks-valid; edges = refl; blocked = some_decides 32 blocks }
+pub returns-clause-blocks : goal.returns-clause-blocks
+returns-clause-blocks c = blocks-valid
+
+pub returns-clause-blocked : goal.returns-clause-blocked
+returns-clause-blocked c = some_decides 32 blocks

@@ -1,16 +1,15 @@
 -- The laws of prefixes, each by its lemma over the width.
-use Rattle.std.proofs.Common.{refl}
-use Rattle.prefix.proofs.Ranges.{valid_decides, range_forward, default_range, single, same-first_bits, covers_decides}
+use Rattle.prefix.proofs.Ranges.{valid_decides, range_forward, default_range, same-first_bits}
 use Rattle.prefix.proofs.laws.prefix_laws.Goals as goal
 
-pub returns : goal.returns
-returns c =
-    record {
-      valid = valid_decides;
-      range = range_forward;
-      default_range = default_range;
-      single = single;
-      first_bits = same-first_bits;
-      covers = covers_decides;
-      widths = (refl, refl);
-    }
+pub returns-clause-valid : goal.returns-clause-valid
+returns-clause-valid c = valid_decides
+
+pub returns-clause-range : goal.returns-clause-range
+returns-clause-range c = range_forward
+
+pub returns-clause-default_range : goal.returns-clause-default_range
+returns-clause-default_range c = default_range
+
+pub returns-clause-first_bits : goal.returns-clause-first_bits
+returns-clause-first_bits c = same-first_bits

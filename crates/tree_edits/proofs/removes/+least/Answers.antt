@@ -1,38 +1,16 @@
-use Rattle.std.proofs.Common.{◌≡◌, ◌<◌, subst, arith}
-use Rattle.tree.specs.Nodes.{stored_height}
-use Rattle.tree.proofs.Held.{opened}
-use Rattle.tree.proofs.Heights.{stored_falls}
-use Rattle.tree_edits.proofs.Leasts.{least-here, least-below}
+use Rattle.std.proofs.Common.{◌≡◌, length, MatchOption, subst}
+use Rattle.tree.specs.Tree.{leaf}
+use Rattle.tree.proofs.Held.{link-within}
+use Rattle.tree_edits.specs.Beside.{LeastAt}
+use Rattle.tree_edits.proofs.Leasts.{least_is}
 use Rattle.tree_edits.proofs.removes.+least.Goals as goal
 
-pub least-requires : goal.least-requires
-least-requires g t c κs within =
+pub returns : goal.returns
+returns g t c =
     let num = g.A.AddressKind.num in
-    let a = c.args in
-    let ns = a.nodes.now in
-    let k = a.k in
-    let p = c.requires.held in
-    let O = opened num ns k c.at-n.result p.0 p.1 (c.at-n.ensures p.0 p.1) in
-    let m : stored_height ns k ≡ t = c.decreases in
-    let f = stored_falls num ns k p.0 c.at-n.result p.1 O in
-    (subst (λ x. stored_height ns c.at-n.result.left < x) m f.0, (within, (omega (arith, c.if-n-eq0.false), (O.lower, O.below))))
-
-pub returns-then-n-eq0 : goal.returns-then-n-eq0
-returns-then-n-eq0 g t c =
-    let num = g.A.AddressKind.num in
-    let a = c.args in
-    let ns = a.nodes.now in
-    let k = a.k in
+    let s = c.args.tree.now in
+    let ns = s.nodes.now in
     λ u H.
-    let O = opened num ns k c.at-n.result u H (c.at-n.ensures u H) in
-    least-here num ns k u c.at-n.result O c.if-n-eq0.true
-
-pub returns-else-n-eq0 : goal.returns-else-n-eq0
-returns-else-n-eq0 g t c =
-    let num = g.A.AddressKind.num in
-    let a = c.args in
-    let ns = a.nodes.now in
-    let k = a.k in
-    λ u H.
-    let O = opened num ns k c.at-n.result u H (c.at-n.ensures u H) in
-    least-below num ns k u c.at-n.result O c.least.result.node c.least.result.rule (c.least.ensures O.lower O.below)
+    let P = c.in_ok-n.ensures.parts u H in
+    let L = subst (λ ms. MatchOption c.least.result (P.lower ≡ leaf) (λ f. LeastAt (length ms) P.lower f.0 f.1)) c.in_ok-n.ensures.row.0 (c.least.ensures P.lower P.below) in
+    least_is num (length ns) s.link u P.lower c.in_ok-n.n.rule P.upper c.least.result c.unwrap_or.result P.is c.unwrap_or.ensures P.some (link-within num ns s.link u H) L

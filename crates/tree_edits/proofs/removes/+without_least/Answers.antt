@@ -1,68 +1,60 @@
-use Rattle.std.proofs.Common.{◌≡◌, ◌+◌, ◌<◌, max, sym, refl, ap, subst, arith}
-use Rattle.tree.specs.Tree.{height, node, Balanced}
-use Rattle.tree.specs.Nodes.{Held, stored_height}
-use Rattle.tree.proofs.Held.{opened}
+use Rattle.std.proofs.Common.{ap, arith, subst}
+use Rattle.tree.specs.Tree.{height, Balanced}
+use Rattle.tree.specs.Nodes.{Held}
 use Rattle.tree.proofs.Heights.{stored_falls}
 use Rattle.tree_edits.specs.Edits.{without}
 use Rattle.tree_edits.proofs.Prunes.{without_keeps}
-use Rattle.tree_edits.proofs.Leasts.{without-here, without-below, without-parts, without-beyond}
+use Rattle.tree_edits.proofs.Leasts.{opened_parts, without_below, without_parts, without_beyond}
 use Rattle.tree_edits.proofs.removes.+without_least.Goals as goal
 
 pub without_least-left-requires : goal.without_least-left-requires
 without_least-left-requires g t c κs within =
     let num = g.A.AddressKind.num in
-    let a = c.args in
-    let ns = a.nodes.now in
-    let k = a.k in
+    let ns = c.args.nodes.now in
+    let n = c.args.top in
+    let m = c.in_Some-next.next in
     let p = c.requires.tree in
-    let O = opened num ns k c.at-n.result p.0 p.1 (c.at-n.ensures p.0 p.1) in
-    let m : stored_height ns k ≡ t = c.decreases in
-    let f = stored_falls num ns k p.0 c.at-n.result p.1 O in
-    let B : Balanced (node O.lower k c.at-n.result.rule O.upper) = subst Balanced O.is p.2 in
-    let h : height p.0 ≡ max (height O.lower) (height O.upper) + 1 = ap height O.is in
-    (subst (λ x. stored_height ns c.at-n.result.left < x) m f.0, (within, (omega (arith, c.if-n-eq0.false), (O.lower, O.below, B.2, omega arith))))
+    let O = c.in_Some-next.ensures p.0 p.2.lower in
+    let f = stored_falls num ns n.left m.left m.right O.is p.2.lower O.below O.above in
+    let h = ap height O.is in
+    (omega (arith, f.0, c.decreases), (within, (O.lower, O.upper, opened_parts num ns n.left p.0 m O p.2.lower, subst Balanced O.is p.3.2, omega (arith, h, p.4))))
 
 pub balance-requires : goal.balance-requires
 balance-requires g t c =
     let num = g.A.AddressKind.num in
-    let a = c.args in
-    let ns = a.nodes.now in
-    let k = a.k in
+    let ns = c.args.nodes.now in
+    let n = c.args.top in
+    let m = c.in_Some-next.next in
+    let w = c.without_least-left in
     let p = c.requires.tree in
-    let O = opened num ns k c.at-n.result p.0 p.1 (c.at-n.ensures p.0 p.1) in
-    let m : stored_height ns k ≡ t = c.decreases in
-    let f = stored_falls num ns k p.0 c.at-n.result p.1 O in
-    let B : Balanced (node O.lower k c.at-n.result.rule O.upper) = subst Balanced O.is p.2 in
-    let h : height p.0 ≡ max (height O.lower) (height O.upper) + 1 = ap height O.is in
-    let P = without-parts num ns k p.0 c.at-n.result O p.1 c.without_least-left.new.nodes c.without_least-left.result c.without_least-left.auto.nodes (c.without_least-left.ensures.made O.lower O.below) (c.without_least-left.ensures.beyond O.lower O.below) in
-    record { parts = (without O.lower, O.upper, P, omega (arith, (without_keeps O.lower B.2).1), omega arith) }
+    let O = c.in_Some-next.ensures p.0 p.2.lower in
+    let Q = opened_parts num ns n.left p.0 m O p.2.lower in
+    let P = without_parts num ns n m p.0 p.1 p.2 O w.new.nodes (w.ensures.beyond O.lower O.upper Q) w.result w.auto.nodes (w.ensures.made O.lower O.upper Q) in
+    record { parts = (without p.0, p.1, P, omega (arith, (without_keeps p.0 p.3.2).1, p.4), omega (arith, p.4)) }
 
-pub returns-then-n-eq0 : goal.returns-then-n-eq0
-returns-then-n-eq0 g t c =
+pub returns-clause-made : goal.returns-clause-made
+returns-clause-made g t c =
     let num = g.A.AddressKind.num in
-    let a = c.args in
-    let ns = a.nodes.now in
-    let k = a.k in
-    record {
-      made = λ u H.
-          let O = opened num ns k c.at-n.result u H (c.at-n.ensures u H) in
-          subst (λ v. Held num ns c.at-n.result.right v) (sym (without-here num ns k u c.at-n.result O c.if-n-eq0.true)) O.above;
-      beyond = λ u H j d z v. refl;
-    }
+    let ns = c.args.nodes.now in
+    let n = c.args.top in
+    let m = c.in_Some-next.next in
+    let w = c.without_least-left in
+    λ l r P.
+    let O = c.in_Some-next.ensures l P.lower in
+    let Q = opened_parts num ns n.left l m O P.lower in
+    let P' = without_parts num ns n m l r P O w.new.nodes (w.ensures.beyond O.lower O.upper Q) w.result w.auto.nodes (w.ensures.made O.lower O.upper Q) in
+    subst (λ u. Held num c.balance.new.nodes c.balance.result u) (without_below num ns n m l r P O) (c.balance.ensures.made (without l) r P')
 
-pub returns-else-n-eq0 : goal.returns-else-n-eq0
-returns-else-n-eq0 g t c =
+pub returns-clause-beyond : goal.returns-clause-beyond
+returns-clause-beyond g t c =
     let num = g.A.AddressKind.num in
-    let a = c.args in
-    let ns = a.nodes.now in
-    let k = a.k in
-    record {
-      made = λ u H.
-          let O = opened num ns k c.at-n.result u H (c.at-n.ensures u H) in
-          let P = without-parts num ns k u c.at-n.result O H c.without_least-left.new.nodes c.without_least-left.result c.without_least-left.auto.nodes (c.without_least-left.ensures.made O.lower O.below) (c.without_least-left.ensures.beyond O.lower O.below) in
-          subst (λ v. Held num c.balance.new.nodes c.balance.result v) (sym (without-below num ns k u c.at-n.result O c.if-n-eq0.false)) (c.balance.ensures.made (without O.lower) O.upper P);
-      beyond = λ u H.
-          let O = opened num ns k c.at-n.result u H (c.at-n.ensures u H) in
-          let P = without-parts num ns k u c.at-n.result O H c.without_least-left.new.nodes c.without_least-left.result c.without_least-left.auto.nodes (c.without_least-left.ensures.made O.lower O.below) (c.without_least-left.ensures.beyond O.lower O.below) in
-          without-beyond num ns k u c.at-n.result O c.without_least-left.new.nodes c.balance.new.nodes (c.without_least-left.ensures.beyond O.lower O.below) (c.balance.ensures.beyond (without O.lower) O.upper P);
-    }
+    let ns = c.args.nodes.now in
+    let n = c.args.top in
+    let m = c.in_Some-next.next in
+    let w = c.without_least-left in
+    λ l r P.
+    let O = c.in_Some-next.ensures l P.lower in
+    let Q = opened_parts num ns n.left l m O P.lower in
+    let far = w.ensures.beyond O.lower O.upper Q in
+    let P' = without_parts num ns n m l r P O w.new.nodes far w.result w.auto.nodes (w.ensures.made O.lower O.upper Q) in
+    without_beyond num ns n m l r P O w.new.nodes far c.balance.new.nodes (c.balance.ensures.beyond (without l) r P')

@@ -1,16 +1,19 @@
-use Rattle.std.proofs.Common.{◌≡◌, ℕ, Bool, not, ltb, leb, ◌∙◌, arith}
-use Rattle.std.proofs.lemmas.Bool.Decides.{nat_tests}
-use Rattle.tree_search.specs.Searches.{starts_by}
-use Rattle.tree_search.proofs.Firsts.{reach_tells, reach_none}
+use Rattle.std.proofs.Common.{sym, ap, ◌∙◌}
+use Rattle.tree.specs.Tree.{rules_in}
+use Rattle.tree_search.specs.Searches.{starts_by, any}
+use Rattle.tree_search.proofs.Orders.{le_num}
+use Rattle.tree_search.proofs.Firsts.{reach_tells, any_empty}
 use Rattle.tree_search.proofs.cover.reaches.Goals as goal
 
-turned : (a b : ℕ) (r : Bool) → r ≡ ltb a b → not r ≡ leb b a
-turned a b r e = grind (arith, nat_tests)
-
-pub returns-then-k-eq0 : goal.returns-then-k-eq0
-returns-then-k-eq0 g c = λ t H. reach_none g.A.AddressKind.num c.args.nodes.now c.args.k t (starts_by (g.A.AddressKind.num c.args.d)) H c.if-k-eq0.true
+pub returns-in_default : goal.returns-in_default
+returns-in_default g c =
+    let num = g.A.AddressKind.num in
+    let p = starts_by (num c.args.d) in
+    λ t H. sym (ap (λ u. any p (rules_in num u)) (c.in_default.ensures t H) ∙ any_empty p)
 
 pub returns : goal.returns
 returns g c =
     let num = g.A.AddressKind.num in
-    λ t H. turned (num c.args.d) (num c.at.result.low) c.lt.result c.lt.ensures ∙ reach_tells num (num c.args.d) c.args.k c.at.result t (c.at.ensures t H)
+    λ t H.
+    c.le.ensures ∙ le_num num g.met.A.AddressKind.by_number g.met.A.Ord.matches_partial_cmp c.in-Some.n.low c.args.d
+    ∙ reach_tells num (num c.args.d) c.args.tree.now.link c.in-Some.n t (c.in-Some.ensures t H)

@@ -6,13 +6,13 @@ use Rattle.tree.specs.Tree.{RuleTree, rules_in}
 use Rattle.tree.specs.Nodes.{Held, stored_height}
 use Rattle.tree_search.proofs.ends.finish_before.Given as goal
 
--- the tree behind k, or else what was found last, decides the whole
-abbrev pub invariant-loop-k : goal.invariant-loop-k
-invariant-loop-k g l =
+-- the tree that is left, or else what was found, decides the whole
+abbrev pub invariant-loop-n : goal.invariant-loop-n
+invariant-loop-n g l =
     let num = g.A.AddressKind.num in
     let d = num l.d in
-    (t : RuleTree _) → Held num l.nodes l.root t → Canonical (rules_in num t)
-    → (u : RuleTree _) × Held num l.nodes l.k u × Canonical (rules_in num u) × (finish_before (rules_in num t) d ≡ or_else (finish_before (rules_in num u) d) (option_map num l.latest))
+    (t : RuleTree _) → Held num l.fn.tree.nodes.now l.fn.tree.link t → Canonical (rules_in num t)
+    → (u : RuleTree _) × Held num l.tree.nodes.now l.tree.link u × Canonical (rules_in num u) × (finish_before (rules_in num t) d ≡ or_else (finish_before (rules_in num u) d) (option_map num l.latest))
 
-abbrev pub decreases-loop-k : goal.decreases-loop-k
-decreases-loop-k g l = stored_height l.nodes l.k
+abbrev pub decreases-loop-n : goal.decreases-loop-n
+decreases-loop-n g l = stored_height l.tree.nodes.now l.tree.link

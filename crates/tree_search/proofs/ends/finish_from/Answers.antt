@@ -1,59 +1,36 @@
-use Rattle.std.proofs.Common.{sym, ap, ◌∙◌, arith}
+use Rattle.std.proofs.Common.{sym, ap, ◌∙◌}
 use Rattle.std.specs.Option.{option_map}
 use Rattle.mirror.specs.Mirrored.{or_else, finish_from}
 use Rattle.tree.specs.Tree.{rules_in}
-use Rattle.tree.proofs.Held.{opened, empty_is}
-use Rattle.tree.proofs.Heights.{stored_falls}
-use Rattle.tree_search.proofs.Firsts.{cut_at, else_none}
+use Rattle.tree_search.proofs.Orders.{lt_num}
+use Rattle.tree_search.proofs.Firsts.{cut_at}
 use Rattle.tree_search.proofs.Finishes.{from_right, from_left, from_end}
 use Rattle.tree_search.proofs.ends.finish_from.Goals as goal
 
-pub loop-k-init : goal.loop-k-init
-loop-k-init g c = let num = g.A.AddressKind.num in λ t H C. (t, H, C, else_none (finish_from (rules_in num t) (num c.args.d)))
-
-pub at-n-requires : goal.at-n-requires
-at-n-requires g c = let w = c.loop-k.invariant c.requires.0 c.requires.1 c.requires.2 in record { some = omega (arith, c.loop-k-test.true); held = (w.0, w.1) }
-
-pub loop-k-smaller-then-lt : goal.loop-k-smaller-then-lt
-loop-k-smaller-then-lt g c =
+pub loop-n-preserved-then-lt : goal.loop-n-preserved-then-lt
+loop-n-preserved-then-lt g c =
     let num = g.A.AddressKind.num in
-    let ns = c.args.nodes.now in
-    let w = c.loop-k.invariant c.requires.0 c.requires.1 c.requires.2 in
-    (stored_falls num ns c.loop-k.k w.0 c.at-n.result w.1 (opened num ns c.loop-k.k c.at-n.result w.0 w.1 (c.at-n.ensures w.0 w.1))).1
-
-pub loop-k-preserved-then-lt : goal.loop-k-preserved-then-lt
-loop-k-preserved-then-lt g c =
-    let num = g.A.AddressKind.num in
-    let ns = c.args.nodes.now in
     let d = num c.args.d in
     λ t H C.
-    let w = c.loop-k.invariant t H C in
-    let O = opened num ns c.loop-k.k c.at-n.result w.0 w.1 (c.at-n.ensures w.0 w.1) in (
-      O.upper,
-      O.above,
-      (cut_at num ns c.loop-k.k w.0 c.at-n.result O w.2).right,
-      from_right num ns c.loop-k.k w.0 c.at-n.result O w.2 d (finish_from (rules_in num t) d) (option_map num c.loop-k.found) c.if-lt.ensures w.3,
+    let w = c.loop-n.invariant t H C in
+    let P = c.in-Some.ensures.parts w.0 w.1 in (
+      P.upper,
+      P.above,
+      (cut_at num P w.2).right,
+      from_right num P w.2 d (finish_from (rules_in num t) d) (option_map num c.loop-n.found) (c.if-lt.ensures ∙ lt_num num g.met.A.AddressKind.by_number g.met.A.Ord.matches_partial_cmp c.in-Some.n.rule.finish c.args.d) w.3,
     )
 
-pub loop-k-smaller : goal.loop-k-smaller
-loop-k-smaller g c =
+pub loop-n-preserved : goal.loop-n-preserved
+loop-n-preserved g c =
     let num = g.A.AddressKind.num in
-    let ns = c.args.nodes.now in
-    let w = c.loop-k.invariant c.requires.0 c.requires.1 c.requires.2 in
-    (stored_falls num ns c.loop-k.k w.0 c.at-n.result w.1 (opened num ns c.loop-k.k c.at-n.result w.0 w.1 (c.at-n.ensures w.0 w.1))).0
-
-pub loop-k-preserved : goal.loop-k-preserved
-loop-k-preserved g c =
-    let num = g.A.AddressKind.num in
-    let ns = c.args.nodes.now in
     let d = num c.args.d in
     λ t H C.
-    let w = c.loop-k.invariant t H C in
-    let O = opened num ns c.loop-k.k c.at-n.result w.0 w.1 (c.at-n.ensures w.0 w.1) in (
-      O.lower,
-      O.below,
-      (cut_at num ns c.loop-k.k w.0 c.at-n.result O w.2).left,
-      from_left num ns c.loop-k.k w.0 c.at-n.result O w.2 d (finish_from (rules_in num t) d) (option_map num c.loop-k.found) c.if-lt.ensures w.3,
+    let w = c.loop-n.invariant t H C in
+    let P = c.in-Some.ensures.parts w.0 w.1 in (
+      P.lower,
+      P.below,
+      (cut_at num P w.2).left,
+      from_left num P w.2 d (finish_from (rules_in num t) d) (option_map num c.loop-n.found) (c.if-lt.ensures ∙ lt_num num g.met.A.AddressKind.by_number g.met.A.Ord.matches_partial_cmp c.in-Some.n.rule.finish c.args.d) w.3,
     )
 
 pub returns : goal.returns
@@ -61,5 +38,6 @@ returns g c =
     let num = g.A.AddressKind.num in
     let d = num c.args.d in
     λ t H C.
-    let w = c.loop-k.invariant t H C in
-    sym (w.3 ∙ ap (λ u. or_else (finish_from (rules_in num u) d) (option_map num c.loop-k.found)) (empty_is num c.args.nodes.now c.loop-k.k w.0 w.1 c.loop-k-test.false) ∙ ap (λ o. or_else o (option_map num c.loop-k.found)) (from_end d))
+    let w = c.loop-n.invariant t H C in
+    let e = c.in_default.ensures.parts w.0 w.1 in
+    sym (w.3 ∙ ap (λ u. or_else (finish_from (rules_in num u) d) (option_map num c.loop-n.found)) e ∙ ap (λ o. or_else o (option_map num c.loop-n.found)) (from_end d))

@@ -1,70 +1,57 @@
-use Rattle.std.proofs.Common.{sym, refl, ◌∙◌, arith}
-use Rattle.tree.proofs.Held.{opened}
-use Rattle.tree.proofs.Heights.{stored_falls}
-use Rattle.tree_search.proofs.Finds.{find-left, find-right, find-here, find_none}
+use Rattle.std.proofs.Common.{sym, ap, ◌∙◌, subst}
+use Rattle.rules.specs.Rules.{hop_of}
+use Rattle.rules.specs.Answers.{numbered}
+use Rattle.rules.proofs.Places.{order-less, order-equal, order-greater}
+use Rattle.tree.specs.Tree.{rules_in}
+use Rattle.tree.specs.Nodes.{Held}
+use Rattle.tree_search.specs.Searches.{root_hop}
+use Rattle.tree_search.proofs.Finds.{find-left, find-right, find-here, no_hop}
 use Rattle.tree_search.proofs.ranges.find.Goals as goal
 
-pub loop-k-init : goal.loop-k-init
-loop-k-init g c = λ t H. (t, H, refl, λ C. (C, refl))
-
-pub at-n-requires : goal.at-n-requires
-at-n-requires g c = let w = c.loop-k.invariant c.requires.0 c.requires.1 in record { some = omega (arith, c.loop-k-test.true); held = (w.0, w.1) }
-
-pub loop-k-smaller-then-is_before : goal.loop-k-smaller-then-is_before
-loop-k-smaller-then-is_before g c =
+pub loop-n-preserved-in-Less : goal.loop-n-preserved-in-Less
+loop-n-preserved-in-Less g c =
     let num = g.A.AddressKind.num in
-    let ns = c.args.nodes.now in
-    let w = c.loop-k.invariant c.requires.0 c.requires.1 in
-    (stored_falls num ns c.loop-k.k w.0 c.at-n.result w.1 (opened num ns c.loop-k.k c.at-n.result w.0 w.1 (c.at-n.ensures w.0 w.1))).0
-
-pub loop-k-preserved-then-is_before : goal.loop-k-preserved-then-is_before
-loop-k-preserved-then-is_before g c =
-    let num = g.A.AddressKind.num in
-    let ns = c.args.nodes.now in
     λ t H.
-    let w = c.loop-k.invariant t H in
-    let O = opened num ns c.loop-k.k c.at-n.result w.0 w.1 (c.at-n.ensures w.0 w.1) in
-    let f = find-left num ns c.loop-k.k w.0 c.at-n.result O c.args.sought (sym c.if-is_before.ensures) in
-    (O.lower, O.below, w.2 ∙ f.0, λ C. let z = w.3 C in let y = f.1 z.0 in (y.0, z.1 ∙ y.1))
+    let w = c.loop-n.invariant t H in
+    let P = c.in-Some.ensures.parts w.0 w.1 in
+    let f = find-left num P c.args.sought (order-less (numbered g.A.AddressKind.num c.args.sought) (numbered g.A.AddressKind.num c.in-Some.n.rule) c.in-Less.ensures).0 in
+    (P.lower, P.below, c.in-Some.ensures.row.0 ∙ w.2, w.3 ∙ f.0, λ C. let z = w.4 C in let y = f.1 z.0 in (y.0, z.1 ∙ y.1))
 
-pub loop-k-smaller : goal.loop-k-smaller
-loop-k-smaller g c =
+pub loop-n-preserved : goal.loop-n-preserved
+loop-n-preserved g c =
     let num = g.A.AddressKind.num in
-    let ns = c.args.nodes.now in
-    let w = c.loop-k.invariant c.requires.0 c.requires.1 in
-    (stored_falls num ns c.loop-k.k w.0 c.at-n.result w.1 (opened num ns c.loop-k.k c.at-n.result w.0 w.1 (c.at-n.ensures w.0 w.1))).1
-
-pub loop-k-preserved : goal.loop-k-preserved
-loop-k-preserved g c =
-    let num = g.A.AddressKind.num in
-    let ns = c.args.nodes.now in
     λ t H.
-    let w = c.loop-k.invariant t H in
-    let O = opened num ns c.loop-k.k c.at-n.result w.0 w.1 (c.at-n.ensures w.0 w.1) in
-    let f = find-right num ns c.loop-k.k w.0 c.at-n.result O c.args.sought (sym c.if-is_before.ensures) (sym c.if-is_before-2.ensures) in
-    (O.upper, O.above, w.2 ∙ f.0, λ C. let z = w.3 C in let y = f.1 z.0 in (y.0, z.1 ∙ y.1))
+    let w = c.loop-n.invariant t H in
+    let P = c.in-Some.ensures.parts w.0 w.1 in
+    let o = order-greater (numbered g.A.AddressKind.num c.args.sought) (numbered g.A.AddressKind.num c.in-Some.n.rule) c.in-Greater.ensures in
+    let f = find-right num P c.args.sought o.0 o.1 in
+    (P.upper, P.above, c.in-Some.ensures.row.1 ∙ w.2, w.3 ∙ f.0, λ C. let z = w.4 C in let y = f.1 z.0 in (y.0, z.1 ∙ y.1))
 
-pub returns-else-is_before-2 : goal.returns-else-is_before-2
-returns-else-is_before-2 g c =
-    let num = g.A.AddressKind.num in
-    let ns = c.args.nodes.now in
-    record {
-      place = λ t H.
-          let w = c.loop-k.invariant t H in
-          let O = opened num ns c.loop-k.k c.at-n.result w.0 w.1 (c.at-n.ensures w.0 w.1) in
-          sym (w.2 ∙ (find-here num ns c.loop-k.k w.0 c.at-n.result O c.args.sought (sym c.if-is_before.ensures) (sym c.if-is_before-2.ensures)).0);
-      held = λ t H C.
-          let w = c.loop-k.invariant t H in
-          let O = opened num ns c.loop-k.k c.at-n.result w.0 w.1 (c.at-n.ensures w.0 w.1) in
-          let z = w.3 C in
-          (w.0, w.1, z.1 ∙ (find-here num ns c.loop-k.k w.0 c.at-n.result O c.args.sought (sym c.if-is_before.ensures) (sym c.if-is_before-2.ensures)).1 z.0);
-    }
+pub returns-in-Equal-clause-place : goal.returns-in-Equal-clause-place
+returns-in-Equal-clause-place g c =
+    λ t H.
+    let w = c.loop-n.invariant t H in
+    let P = c.in-Some.ensures.parts w.0 w.1 in
+    let o = order-equal (numbered g.A.AddressKind.num c.args.sought) (numbered g.A.AddressKind.num c.in-Some.n.rule) c.in-Equal.ensures in
+    (P.some, sym (w.3 ∙ (find-here g.A.AddressKind.num P c.args.sought o.0 o.1).0))
 
-pub returns : goal.returns
-returns g c =
+pub returns-in-Equal-clause-held : goal.returns-in-Equal-clause-held
+returns-in-Equal-clause-held g c =
     let num = g.A.AddressKind.num in
-    let ns = c.args.nodes.now in
-    record {
-      place = λ t H. let w = c.loop-k.invariant t H in sym (w.2 ∙ (find_none num ns c.loop-k.k w.0 c.args.sought w.1 c.loop-k-test.false).0);
-      held = λ t H C. let w = c.loop-k.invariant t H in let f = find_none num ns c.loop-k.k w.0 c.args.sought w.1 c.loop-k-test.false in (w.0, f.2, (w.3 C).1 ∙ f.1);
-    }
+    λ t H C.
+    let w = c.loop-n.invariant t H in
+    let P = c.in-Some.ensures.parts w.0 w.1 in
+    let z = w.4 C in
+    let o = order-equal (numbered g.A.AddressKind.num c.args.sought) (numbered g.A.AddressKind.num c.in-Some.n.rule) c.in-Equal.ensures in
+    let h = ap root_hop P.is in (
+      z.1 ∙ (find-here num P c.args.sought o.0 o.1).1 z.0 ∙ h,
+      (w.0, subst (λ ns. Held num ns c.loop-n.tree.link w.0) w.2 w.1, h),
+    )
+
+pub returns-clause-held : goal.returns-clause-held
+returns-clause-held g c =
+    let num = g.A.AddressKind.num in
+    let x = c.args.sought in
+    λ t H C.
+    let w = c.loop-n.invariant t H in
+    (w.4 C).1 ∙ ap (λ u. hop_of (rules_in num u) (num x.start) (num x.finish)) (c.in_default.ensures.parts w.0 w.1) ∙ no_hop (num x.start) (num x.finish)

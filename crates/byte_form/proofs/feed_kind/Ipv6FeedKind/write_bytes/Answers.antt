@@ -1,26 +1,25 @@
-use Rattle.std.proofs.Common.{◌≡◌, ℕ, ◌+◌, ◌*◌, ◌^◌, ◌<◌, List, [], ◌++◌, length, take, drop, sym, ap, ◌∙◌, ap₂, arith, length-append, length-drop, length-take, rules}
-use borrow.Rule.Slice.PartMut.{put_mid, post_of}
-use Rattle.std.proofs.lemmas.List.{take_at, drop_all, append-nil}
+use Rattle.std.proofs.Common.{◌≡◌, ℕ, zero, suc, ◌/◌, ◌%◌, ◌^◌, [], ◌∷◌, ◌++◌, length, refl, ap, sym, ◌∙◌, ap₂, true, eqb, eq-eqb, pow-suc, mul_comm, arith}
+use Rattle.std.specs.Int.{bytes_high_first, byte_at}
+use Rattle.std.proofs.Math.Nat.{div-div-eq-div-mul}
 use Rattle.byte_form.specs.Bytes.{bytes_of}
-use Rattle.byte_form.specs.BytesLemmas.{bytes_append, length_bytes}
 use Rattle.byte_form.proofs.feed_kind.Ipv6FeedKind.write_bytes.Goals as goal
 
--- xs and then ys were written into the halves of `out`
-halves : (out xs ys : List ℕ) (high low : ℕ) → length out ≡ 16 → high < 2 ^ 64 → low < 2 ^ 64 → xs ≡ bytes_of (length (take 8 out)) high → ys ≡ bytes_of (length (take 8 (drop 8 (xs ++ post_of 0 8 out)))) low → put_mid 8 8 (xs ++ post_of 0 8 out) ys ≡ bytes_of 16 (high * 2 ^ 64 + low)
-halves out xs ys high low l h w e f =
-    let a : length (take 8 out) ≡ 8 = simp length-take (omega arith) in
-    let x : xs ≡ bytes_of 8 high = e ∙ ap (λ k. bytes_of k high) a in
-    let n : length xs ≡ 8 = ap length x ∙ length_bytes 8 high in
-    let b : length (take 8 (drop 8 (xs ++ drop 8 out))) ≡ 8 = simp (length-take, length-drop, length-append) (omega arith) in
-    let y : ys ≡ bytes_of 8 low = f ∙ ap (λ k. bytes_of k low) b in
-    let d : drop 8 (drop 8 (xs ++ drop 8 out)) ≡ [] = drop_all 8 (drop 8 (xs ++ drop 8 out)) (simp (length-drop, length-append) (omega arith)) in
-    ap₂ ◌++◌ (take_at xs (drop 8 out) 8 n ∙ x) (ap (λ r. ys ++ r) d ∙ append-nil ys ∙ y)
-    ∙ sym (bytes_append 8 8 high low h w)
+byte_up : (i n : ℕ) → byte_at (suc i) n ≡ byte_at i (n / 256)
+byte_up zero n = refl
+byte_up (suc i) n =
+    ap (λ m. m % 256) (ap (λ p. n / p) (pow-suc 256 (suc i) ∙ mul_comm (256 ^ suc i) 256) ∙ sym (div-div-eq-div-mul n 256 (256 ^ suc i)))
 
-pub returns : goal.returns
-returns c =
-    let out = c.args.out.now in
-    let l : length out ≡ 16 = omega arith in
-    let h = c.write.ensures ∙ ap (bytes_of (length (take 8 out))) c.high.ensures in
-    let w = c.write-2.ensures ∙ ap (bytes_of (length (take 8 (drop 8 (c.write.new.out ++ post_of 0 8 out))))) c.low.ensures in
-    record { answer = search rules; after = simp l (halves out _ _ _ _ l c.args.self.high_ok c.args.self.low_ok h w) }
+push : (w n : ℕ) → bytes_high_first (suc w) n ≡ bytes_high_first w (n / 256) ++ (n % 256 ∷ [])
+push zero n = refl
+push (suc w) n = ap₂ ◌∷◌ (byte_up w n) (push w n)
+
+high_first : (w n : ℕ) → bytes_high_first w n ≡ bytes_of w n
+unfolding bytes_of
+high_first zero n = refl
+high_first (suc w) n = push w n ∙ ap (λ bs. bs ++ (n % 256 ∷ [])) (high_first w (n / 256))
+
+pub returns-clause-after : goal.returns-clause-after
+returns-clause-after c =
+    let n = c.copy_from_slice.ensures.after ∙ c.to_be_bytes.ensures ∙ high_first 16 c.from.result ∙ ap (bytes_of 16) c.from.ensures in
+    let t : eqb (length c.args.out.now) 16 ≡ true = eq-eqb (length c.args.out.now) 16 (omega arith) in
+    rw t n

@@ -1,14 +1,14 @@
-use Rattle.std.proofs.Common.{◌≡◌, false, is_some, ◌∙◌, rules}
+use Rattle.std.proofs.Common.{◌≡◌, None, ◌∙◌, arith}
+use Rattle.std.proofs.lemmas.Grind.{common_steps}
 use Rattle.rules.specs.Rules.{hop_of}
-use Rattle.table.proofs.Updates.{undone}
+use Rattle.batch.proofs.Backs.{added_back}
 use Rattle.table.proofs.calls.Table.add.Goals as goal
 
-pub returns : goal.returns
-returns g c =
+pub returns-clause-after : goal.returns-clause-after
+returns-clause-after g c =
     let s = c.args.self.now in
     let k = g.Self.Kind.AddressKind.num in
     let q = g.Self.RangeStore in
-    let n : is_some (hop_of (q.rules s) (k c.args.start) (k c.args.finish)) ≡ false = search rules in
-    let w = undone (q.capacity s) (q.rules s) (q.rules c.put.new.self) (q.rules c.take.new.self) (k c.args.start) (k c.args.finish) c.args.hop
-    n c.in_ok-put.ensures.answer c.put.ensures.after c.if-resolved_between.ensures c.take.ensures.after in
-    record { answer = w.answer; after = w.after; room = c.take.ensures.room ∙ c.put.ensures.room }
+    let n : None ≡ hop_of (q.rules s) (k c.args.start) (k c.args.finish) = grind (arith, common_steps) in
+    let b : q.rules c.take.new.self ≡ q.rules s = c.take.ensures.after ∙ rw c.put.ensures.after (added_back (q.capacity s) _ (q.rules s) _ _ c.args.hop None (g.met.Self.RangeStore.sound s) n c.in_ok-put.ensures.answer) in
+    grind (arith, common_steps)

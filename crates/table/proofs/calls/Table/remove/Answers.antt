@@ -1,22 +1,15 @@
-use Rattle.std.proofs.Common.{◌∙◌}
-use Rattle.table.proofs.Updates.{removed, restored}
+use Rattle.std.proofs.Common.{◌≡◌, false, ltb, Some, ◌∙◌, arith, rules}
+use Rattle.std.proofs.lemmas.Grind.{common_steps}
+use Rattle.rules.specs.Rules.{hop_of}
+use Rattle.batch.proofs.Backs.{removed_back}
 use Rattle.table.proofs.calls.Table.remove.Goals as goal
 
-pub returns-then-resolved_between : goal.returns-then-resolved_between
-returns-then-resolved_between g c =
+pub returns-clause-after : goal.returns-clause-after
+returns-clause-after g c =
     let s = c.args.self.now in
     let k = g.Self.Kind.AddressKind.num in
     let q = g.Self.RangeStore in
-    let w = removed g.Self.Kind.AddressKind.last (q.rules s) (q.rules c.take.new.self) (k c.args.start) (k c.args.finish) c.in-Some.hop
-    c.if-lt.ensures c.if-is_default.ensures c.in-Some.ensures.answer c.take.ensures.after c.if-resolved_between.ensures in
-    record { answer = w.answer; after = w.after; room = c.take.ensures.room }
-
-pub returns : goal.returns
-returns g c =
-    let s = c.args.self.now in
-    let k = g.Self.Kind.AddressKind.num in
-    let q = g.Self.RangeStore in
-    let w = restored g.Self.Kind.AddressKind.last (q.capacity s) (q.rules s) (q.rules c.take.new.self) (q.rules c.put.new.self) (k c.args.start) (k c.args.finish) c.in-Some.hop
-    c.hop_of.ensures.sound c.if-lt.ensures c.if-is_default.ensures c.in-Some.ensures.answer c.take.ensures.after c.if-resolved_between.ensures
-    (rw (← c.take.ensures.room) c.put.ensures.after) in
-    record { answer = w.answer; after = w.after; room = c.put.ensures.room ∙ c.take.ensures.room }
+    let t : false ≡ ltb (k c.args.finish) (k c.args.start) = search rules in
+    let e : Some c.in-Some.hop ≡ hop_of (q.rules s) (k c.args.start) (k c.args.finish) = search rules in
+    let b : q.rules c.put.new.self ≡ q.rules s = c.put.ensures.after ∙ rw (c.take.ensures.room, c.take.ensures.after) (removed_back _ _ _ _ _ _ (g.met.Self.RangeStore.sound s) t e) in
+    grind (arith, common_steps)

@@ -1,7 +1,0 @@
-use Rattle.std.proofs.Common.{refl, arith}
-use Rattle.rules.specs.Rules.{ordered}
-use Rattle.row_store.proofs.ipv4_row.Ipv4Row.new.Goals as goal
-
-pub invariant_of-result : goal.invariant_of-result
-unfolding ordered
-invariant_of-result c = record { within = omega arith; order = refl }
