@@ -1,31 +1,22 @@
-//! Edits of a row's first places. They take the row with a count: an insert takes the first of the places behind, which are undecided.
+//! Edits that move the places behind a rule by one.
 
-ghost use Rattle.std.specs.Prelude.{◌≡◌, ◌+◌, ◌-◌, ◌<◌, ◌≤◌, length, take, slice_set};
+ghost use Rattle.std.specs.Prelude.{◌≡◌, ◌+◌, ◌-◌, ◌<◌, length, take};
 ghost use Rattle.std.specs.List.{insert, remove};
 
-/// The first n places gain x at place p.
-pub(crate) fn insert_at<T: Copy>(row: &mut [T], p: usize, n: usize, x: T)
-    requires inside { p ≤ n }
-    requires room { n < length row.old }
-    ensures { take (n + 1) row.new ≡ insert (take n row.old) p x }
+/// The places but the last gain x at place p; the last was free.
+pub(crate) fn insert_at<T: Copy>(places: &mut [T], p: usize, x: T)
+    requires { p < length places.old }
+    ensures { places.new ≡ insert (take (length places.old - 1) places.old) p x }
 {
-    row[n] = x;
-    row[p..n + 1].rotate_right(1);
+    let last = places.len() - 1;
+    places[last] = x;
+    places[p..].rotate_right(1);
 }
 
-/// The first n places lose the one at place p.
-pub(crate) fn remove_at<T: Copy>(row: &mut [T], p: usize, n: usize)
-    requires inside { p < n }
-    requires room { n ≤ length row.old }
-    ensures { take (n - 1) row.new ≡ remove (take n row.old) p }
+/// The places lose the one at place p; the last is free then.
+pub(crate) fn remove_at<T: Copy>(places: &mut [T], p: usize)
+    requires { p < length places.old }
+    ensures { take (length places.old - 1) places.new ≡ remove places.old p }
 {
-    row[p..n].rotate_left(1);
-}
-
-/// Place p gets x.
-pub(crate) fn set_at<T: Copy>(row: &mut [T], p: usize, x: T)
-    requires { p < length row.old }
-    ensures { row.new ≡ slice_set row.old p x }
-{
-    row[p] = x;
+    places[p..].rotate_left(1);
 }

@@ -86,12 +86,12 @@ impl<'a, A: AddressKind> RangeStore for RowStore<'a, A> {
         }
         let rule = Rule { start, finish, hop };
         match self.search(&rule) {
-            Ok(place) => edits::set_at(self.row, place, rule),
+            Ok(place) => self.row[place] = rule,
             Err(place) => {
                 if self.count == self.capacity() {
                     return Err(Refusal::Full);
                 }
-                edits::insert_at(self.row, place, self.count, rule);
+                edits::insert_at(&mut self.row[..self.count + 1], place, rule);
                 self.count += 1;
             }
         }
@@ -110,7 +110,7 @@ impl<'a, A: AddressKind> RangeStore for RowStore<'a, A> {
         let Ok(place) = self.search(&sought) else {
             return Err(Refusal::NotHeld);
         };
-        edits::remove_at(self.row, place, self.count);
+        edits::remove_at(&mut self.row[..self.count], place);
         self.count -= 1;
         Ok(())
     }

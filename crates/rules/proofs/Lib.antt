@@ -3,3 +3,4 @@ pub mod Search
 pub mod Conflicts
 pub mod Boundaries
 pub mod Places
+pub mod Orders

@@ -8,8 +8,8 @@ use crate::joins::node_at;
 use crate::node::{Branch, Node};
 use address::AddressKind;
 
-// What a call promises, it promises of each tree that the row holds at the link: `held` says that there is one, and a definition of which
-// one it is would have to be folded out of the row.
+// What a call promises, it promises of each tree that the row holds at the link, and `held` says that there is one: an edit, which has a
+// tree by its parts, can use that as it stands.
 /// The tree behind a link of a row. As long as it is borrowed the row stays as it is, and so does the tree.
 #[derive(Drop)]
 pub struct Subtree<'a, A: AddressKind> {

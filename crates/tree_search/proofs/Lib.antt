@@ -1,4 +1,3 @@
-pub mod Orders
 pub mod Firsts
 pub mod Finishes
 pub mod Finds

@@ -5,7 +5,7 @@ use Rattle.rules.specs.Answers.{numbered, told}
 use Rattle.mirror.specs.Mirrored.{or_else}
 use Rattle.tree.specs.Tree.{rules_in}
 use Rattle.tree_search.specs.Searches.{starts_by, any, first_with}
-use Rattle.tree_search.proofs.Orders.{lt_num, le_num}
+use Rattle.rules.proofs.Orders.{lt_num, le_num}
 use Rattle.tree_search.proofs.Firsts.{cut_at, cover-left, cover-right, mark_new, mark_old, else_none, first_empty, first_on, first_off, any_on, any_off, covering_end}
 use Rattle.tree_search.proofs.cover.first_covering.Goals as goal
 use Rattle.tree_search.proofs.cover.first_covering.Goals.{then-le-via-then-le, then-le-via-else-le+then-reaches}

@@ -1,7 +1,7 @@
 use Rattle.std.proofs.Common.{sym, ap, ◌∙◌}
 use Rattle.tree.specs.Tree.{rules_in}
 use Rattle.tree_search.specs.Searches.{starts_by, any}
-use Rattle.tree_search.proofs.Orders.{le_num}
+use Rattle.rules.proofs.Orders.{le_num}
 use Rattle.tree_search.proofs.Firsts.{reach_tells, any_empty}
 use Rattle.tree_search.proofs.cover.reaches.Goals as goal
 

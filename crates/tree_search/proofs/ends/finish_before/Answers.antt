@@ -2,7 +2,7 @@ use Rattle.std.proofs.Common.{sym, ap, ◌∙◌}
 use Rattle.std.specs.Option.{option_map}
 use Rattle.mirror.specs.Mirrored.{or_else, finish_before}
 use Rattle.tree.specs.Tree.{rules_in}
-use Rattle.tree_search.proofs.Orders.{lt_num}
+use Rattle.rules.proofs.Orders.{lt_num}
 use Rattle.tree_search.proofs.Firsts.{cut_at}
 use Rattle.tree_search.proofs.Finishes.{before_right, before-left, before-end}
 use Rattle.tree_search.proofs.ends.finish_before.Goals as goal

@@ -2,7 +2,7 @@ use Rattle.std.proofs.Common.{sym, ap, ◌∙◌}
 use Rattle.std.specs.Option.{option_map}
 use Rattle.mirror.specs.Mirrored.{or_else, finish_from}
 use Rattle.tree.specs.Tree.{rules_in}
-use Rattle.tree_search.proofs.Orders.{lt_num}
+use Rattle.rules.proofs.Orders.{lt_num}
 use Rattle.tree_search.proofs.Firsts.{cut_at}
 use Rattle.tree_search.proofs.Finishes.{from_right, from_left, from_end}
 use Rattle.tree_search.proofs.ends.finish_from.Goals as goal
