@@ -2,7 +2,7 @@
 
 use crate::places::blank;
 use address::Port;
-use batch::{Batch, Change, Staged};
+use batch::{Batch, Change, Staged, undo};
 use row_store::PortRow;
 use rules::{RangeStore, Refusal};
 use table::Table;
@@ -88,4 +88,21 @@ fn a_short_list_and_a_batch_of_none(rt: HostRuntime) {
     assert!(rt; default == Err(Refusal::DefaultRange));
     assert!(rt; first.is_ok() && second == Err(Refusal::BatchFull));
     assert!(rt; short == Err(Refusal::ShortList) && none == Ok(0));
+}
+
+#[test]
+fn undo_of_more_changes_than_the_list_has(rt: HostRuntime) {
+    let mut row = [blank(); 2];
+    let mut table = PortRow::new(&mut row);
+    assert!(rt; table.put(Port::new(1), Port::new(5), 3).is_ok());
+    let list = [Staged {
+        change: Change::Add {
+            start: Port::new(1),
+            finish: Port::new(5),
+            hop: 3,
+        },
+        note: None,
+    }];
+    undo(&mut table, &list, 9);
+    assert_eq!(rt; table.count(), 0);
 }

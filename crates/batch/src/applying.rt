@@ -81,7 +81,7 @@ fn apply_all<S: RangeStore>(store: &mut S, list: &mut [Staged<S::Kind>]) -> Resu
         match apply_one(store, &staged.change) {
             Ok(note) => staged.note = note,
             Err(refusal) => {
-                undo(store, &list[..i]);
+                undo(store, list, i);
                 return Err(refusal);
             }
         }

@@ -29,7 +29,8 @@ impl From<Refusal> for Unforwarded {
     }
 }
 
-/// The start, the finish and the hop of the most specific rule, by which the destination is forwarded. Refuses `Blocked`, then as the table's lookup.
+/// The start, the finish and the hop of the most specific rule, by which the destination is forwarded, or why it is not: `Blocked`
+/// first, then the table's refusal, which is part of the answer. The question itself refuses nothing.
 pub fn forward<S: RangeStore<Kind = Ipv4>>(
     table: &S,
     destination: Ipv4,

@@ -14,7 +14,7 @@ hop_short n h = length-decimal-le 5 n (omega arith) (omega arith) (omega arith)
 pub size_short : (n : ℕ) → n < 2 ^ 64 → length (decimal n) ≤ 20
 size_short n h = length-decimal-le 20 n (omega arith) (omega arith) h
 
-number_small : (e : Refusal) → number e ≤ 16
+pub number_small : (e : Refusal) → number e ≤ 16
 number_small e = search rules
 
 pub number_short : (e : Refusal) → length (decimal (number e)) ≤ 2

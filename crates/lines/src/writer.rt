@@ -37,8 +37,10 @@ impl<'a> LineWriter<'a> {
         requires { 0 < room self.old }
         ensures { Wrote self.old (byte ∷ []) self.new }
     {
-        self.buffer[self.place] = byte;
-        self.place += 1;
+        // Read once: behind the write the compiler would load it again.
+        let place = self.place;
+        self.buffer[place] = byte;
+        self.place = place + 1;
     }
 
     pub(crate) fn bytes(&mut self, bytes: &[u8])
@@ -55,10 +57,12 @@ impl<'a> LineWriter<'a> {
         requires { length (decimal n) ≤ room self.old }
         ensures { Wrote self.old (decimal n) self.new }
     {
-        if n >= 10 {
+        if n < 10 {
+            self.byte(b'0' + n as u8);
+        } else {
             self.decimal(n / 10);
+            self.byte(b'0' + (n % 10) as u8);
         }
-        self.byte(b'0' + (n % 10) as u8);
     }
 
     /// Writes a mark, and a number in decimal behind it.
@@ -80,14 +84,21 @@ impl<'a> LineWriter<'a> {
         self.number(b' ', n as u64);
     }
 
-    /// Writes a mark, and an octet in decimal behind it.
+    /// Writes a mark, and an octet in decimal behind it. Digit by digit, since `decimal` takes longer.
     #[tactic(auto, using(crate::proofs::Sizes::octet_short))]
     fn octet(&mut self, mark: u8, octet: u8)
         requires { 3 < room self.old }
         ensures wrote { Wrote self.old (mark ∷ decimal octet) self.new }
         ensures short { length (decimal octet) ≤ 3 }
     {
-        self.number(mark, u64::from(octet));
+        self.byte(mark);
+        if octet >= 100 {
+            self.byte(b'0' + octet / 100);
+        }
+        if octet >= 10 {
+            self.byte(b'0' + octet / 10 % 10);
+        }
+        self.byte(b'0' + octet % 10);
     }
 
     /// Writes a space, and behind it an address as four decimal numbers with dots between.

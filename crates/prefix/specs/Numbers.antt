@@ -18,7 +18,7 @@ abbrev pub bits : {w : ℕ} → Bits w → Prefix
 bits p = prefix p.value p.length
 
 abbrev pub prefix4 : Prefix4 → Prefix
-prefix4 p = bits p.0
+prefix4 p = prefix p.value p.length
 
 abbrev pub prefix6 : Prefix6 → Prefix
 prefix6 p = bits p.0

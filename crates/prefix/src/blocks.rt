@@ -8,17 +8,16 @@ ghost use Rattle.prefix.specs.Prefixes.{range_of};
 ghost use Rattle.prefix.specs.Numbers.{prefix4};
 ghost use Rattle.prefix.specs.Blocks.{blocked};
 
-use crate::bits::Bits;
 use crate::four::Prefix4;
 use address::Ipv4;
 
 // The block that is written a.b.c.d/length. A constant calls no function.
 macro_rules! block {
     ($a:literal, $b:literal, $c:literal, $d:literal; $length:literal) => {
-        Prefix4(Bits {
+        Prefix4 {
             value: ($a << 24) + ($b << 16) + ($c << 8) + $d,
             length: $length,
-        })
+        }
     };
 }
 

@@ -5,6 +5,7 @@ use crate::four::Prefix4;
 use crate::six::Prefix6;
 use address::{Ipv4, Ipv6};
 use rules::Refusal;
+use std::mem::size_of;
 use std::test::Fail;
 
 // The number of the refusal, or none for what is made.
@@ -95,6 +96,12 @@ fn refusals(rt: HostRuntime) {
     assert_eq!(rt; refused(Prefix6::new(Ipv6::new(1, 0), 63)), Some(11));
     assert_eq!(rt; refused(Prefix6::new(Ipv6::new(0, 1), 64)), Some(11));
     assert_eq!(rt; refused(Prefix6::new(Ipv6::new(0, 0), 129)), Some(11));
+}
+
+#[test]
+fn sizes_of_prefixes(rt: HostRuntime) {
+    assert_eq!(rt; size_of::<Prefix4>(), 8);
+    assert_eq!(rt; size_of::<Prefix6>(), 32);
 }
 
 #[test]

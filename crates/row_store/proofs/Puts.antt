@@ -28,7 +28,7 @@ module _ {A : Type 0} (num : A → ℕ) (row : List (Stored A)) (n : ℕ) (w : n
 
   -- the range is held
   module _ (k : is_some (hop_of (held num n row) (num s) (num f)) ≡ true) where
-    held_place : place_of (held num n row) (num s) (num f) < n
+    pub held_place : place_of (held num n row) (num s) (num f) < n
     held_place = rw length-held at (place_set (num s) (num f) 0 (held num n row) canon k).0
 
     pub held-set : (h : ℕ) → held num n (set row (place_of (held num n row) (num s) (num f)) (record { start = s; finish = f; hop = h })) ≡ insert (rule (num s) (num f) h) (held num n row)

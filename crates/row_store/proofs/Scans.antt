@@ -1,19 +1,20 @@
 -- The searches of a row: the turn that ends a scan, the turn that goes on and the end, and the place where a search for a range ends.
-use Rattle.std.proofs.Common.{◌≡◌, ℕ, zero, suc, ◌+◌, ◌<◌, ◌≤◌, Bool, true, false, cond, List, [], ◌∷◌, ◌++◌, map, length, append_assoc, get_or, take, drop, Some, None, Option, Ok, Err, Result, sym, refl, ap, ◌∙◌, inl, inr, arith}
-use Rattle.std.proofs.lemmas.List.{drop_all, take_all, map_more}
+use Rattle.std.proofs.Common.{◌≡◌, Ordering, ℕ, zero, suc, ◌+◌, ◌-◌, ◌<◌, ◌≤◌, Bool, true, false, cond, List, [], ◌∷◌, ◌++◌, map, length, append_assoc, get_or, take, drop, Some, None, Option, Ok, Err, Result, sym, refl, ap, ◌∙◌, inl, inr, arith}
+use Rattle.std.proofs.lemmas.List.{drop_all, take_all, map_more, get_or-take, length-take-le}
+use Rattle.std.proofs.lemmas.Bool.{cases_lt}
 use Rattle.std.proofs.lemmas.Bool.Decides.{nat_tests}
 use Rattle.std.specs.List.{slice_index_or, push}
 use Rattle.std.specs.List.Sorted.{IsNonDecreasingBy, IsPartitionPoint, IsSearchInRange, IsBinarySearchResult}
 use Rattle.std.specs.Ordering.{ordering_index}
 use Rattle.std.specs.declared.cmp.Ordering.TheVariants.{Less, Equal, Greater}
 use Rattle.rules.specs.declared.rule.Rule.{Rule as Stored}
-use Rattle.rules.specs.Rules.{Rule, range, hop_of, order, covers, ordered, In, Earlier, Canonical}
+use Rattle.rules.specs.Rules.{Rule, range, hop_of, order, earlier, covers, ordered, In, Earlier, Canonical}
 use Rattle.rules.specs.Search.{best, better, closer, least_finish, greatest_start}
 use Rattle.rules.specs.Boundaries.{next_boundary, nearest}
 use Rattle.rules.proofs.Search.{best-++, closer_ranks}
 use Rattle.rules.specs.Answers.{place_of, numbered}
 use Rattle.rules.proofs.Places.{first, first_is_best, ordered_decides, order-less, order-equal, order-greater}
-use Rattle.row_store.specs.Held.{IsPlace}
+use Rattle.row_store.specs.Held.{IsPlace, Reaches}
 use Rattle.row_store.proofs.Lists.{next_left}
 
 module _ {X : Type 0} (f : X → Rule) (xs : List X) (i d : ℕ) (inv : first (λ r. covers r d) (map f xs) ≡ first (λ r. covers r d) (map f (drop i xs))) where
@@ -98,6 +99,41 @@ module _ {A : Type 0} (num : A → ℕ) where
         → IsBinarySearchResult (λ x. order (numbered num x) (range u v)) xs r → IsPlace num xs u v r
     searched xs (Ok p) c h e = found_at xs p c h e
     searched xs (Err p) c h e = parted_at xs p h (e (rising (range u v) xs c))
+
+    greatest : (o q : Ordering) → ordering_index o ≤ ordering_index q → o ≡ Greater → q ≡ Greater
+    greatest o Less h e = absurd (omega (arith, ap ordering_index e))
+    greatest o Equal h e = absurd (omega (arith, ap ordering_index e))
+    greatest o Greater h e = refl
+
+    -- what stands behind a rule that is after the range is after it
+    behind : (xs : List (Stored A)) (i k : ℕ) (d : Stored A) → Canonical (map (numbered num) xs) → i ≤ k → k < length xs
+        → order (numbered num (slice_index_or xs i d)) (range u v) ≡ Greater → order (numbered num (slice_index_or xs k d)) (range u v) ≡ Greater
+    behind xs i k d c a b = greatest (order (numbered num (slice_index_or xs i d)) (range u v)) (order (numbered num (slice_index_or xs k d)) (range u v)) (rising (range u v) xs c i k d a b)
+
+    not_less : (x : Rule) → earlier x (range u v) ≡ false → order x (range u v) ≡ Less → ⊥
+    not_less x e l = grind (arith, nat_tests)
+
+    -- a search of a front part that reaches the range ends where a search of all does
+    pub searched_front : (xs : List (Stored A)) (n : ℕ) (r : Result ℕ ℕ) → Canonical (map (numbered num) xs) → Reaches num xs u v n → IsSearchInRange r (length (take n xs))
+        → IsBinarySearchResult (λ x. order (numbered num x) (range u v)) (take n xs) r → IsPlace num xs u v r
+    searched_front xs n (Ok p) c q h e =
+        let l : length (take n xs) ≡ n = length-take-le n xs q.0 in
+        searched xs (Ok p) c (omega arith) (λ d. rw (← get_or-take n xs p d (omega arith)) (e d))
+    searched_front xs n (Err p) c q h e =
+        let l : length (take n xs) ≡ n = length-take-le n xs q.0 in
+        let by : Stored A → Ordering = λ x. order (numbered num x) (range u v) in
+        let front = e (λ i j d a b. rw (get_or-take n xs i d (omega arith), get_or-take n xs j d (omega arith)) (rising (range u v) xs c i j d a (omega arith))) in
+        let less : (k : ℕ) (d : Stored A) → k < p → by (slice_index_or xs k d) ≡ Less = λ k d a. rw (← get_or-take n xs k d (omega arith)) (front.0 k d (omega arith) a) in
+        let greater : (k : ℕ) (d : Stored A) → p ≤ k → k < n → by (slice_index_or xs k d) ≡ Greater = λ k d a b. rw (← get_or-take n xs k d b) (front.1 k d a (omega arith)) in
+        let last : (d : Stored A) → n < length xs → by (slice_index_or xs (n - 1) d) ≡ Greater = λ d a. elim (cases_lt p n) [
+          | inl i ↦ greater (n - 1) d (omega arith) (omega arith)
+          | inr i ↦ absurd (not_less (numbered num (slice_index_or xs (n - 1) d)) ((q.1 a).1 d) (less (n - 1) d (omega (arith, (q.1 a).0))))
+        ] in
+        let after : (k : ℕ) (d : Stored A) → p ≤ k → k < length xs → by (slice_index_or xs k d) ≡ Greater = λ k d a b. elim (cases_lt k n) [
+          | inl i ↦ greater k d a i
+          | inr i ↦ behind xs (n - 1) k d c (omega arith) b (last d (omega arith))
+        ] in
+        searched xs (Err p) c (omega arith) (λ w. ((λ k d a b. less k d b), after))
 
 -- a scan from the back: one rule more in front
 pub boundary_on : (x : Rule) (R : List Rule) (last d : ℕ) (o p q : Option ℕ) → o ≡ next_boundary last R d → p ≡ nearest last d (suc x.finish) o → q ≡ nearest last d x.start p → q ≡ next_boundary last (x ∷ R) d

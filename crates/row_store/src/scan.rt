@@ -6,10 +6,23 @@ ghost use Rattle.rules.specs.Rules.{ordered, covers};
 ghost use Rattle.rules.specs.Search.{least_finish, greatest_start, better, closer};
 ghost use Rattle.rules.specs.Boundaries.{next_boundary};
 ghost use Rattle.rules.specs.Answers.{numbered, told};
+ghost use Rattle.row_store.specs.Held.{Reaches};
 
 use address::AddressKind;
 use rules::{Rule, nearer, nearer_end};
 use std::cmp::Reverse;
+
+/// The length of a front part of the rules that is all of them or ends at one that is not before `sought`.
+// Its length grows fourfold, so a range near the front is found in a short part, however long the row.
+pub(crate) fn reach<A: AddressKind>(held: &[Rule<A>], sought: &Rule<A>) -> usize
+    ensures { Reaches A.AddressKind.num held.now (A.AddressKind.num sought.now.start) (A.AddressKind.num sought.now.finish) result }
+{
+    let mut end: usize = 1;
+    while end < held.len() && held[end - 1].is_before(sought) {
+        end *= 4;
+    }
+    end.min(held.len())
+}
 
 /// The first rule that covers d: in canonical order, the one of least finish.
 pub(crate) fn first_in<A: AddressKind>(held: &[Rule<A>], d: A) -> Option<(A, A, u16)>

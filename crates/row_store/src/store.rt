@@ -49,7 +49,9 @@ impl<'a, A: AddressKind> RowStore<'a, A> {
     fn search(&self, sought: &Rule<A>) -> Result<usize, usize>
         ensures { IsPlace A.AddressKind.num (take self.now.count self.now.row.now) (A.AddressKind.num sought.now.start) (A.AddressKind.num sought.now.finish) result }
     {
-        self.held().binary_search_by(|x| x.order(sought))
+        let held = self.held();
+        let front = &held[..scan::reach(held, sought)];
+        front.binary_search_by(|x| x.order(sought))
     }
 }
 

@@ -60,7 +60,7 @@ boundary_least last R d = go (next_boundary last R d) (boundary_above last R d)
     go (Some e) a = a
 
 -- where the stretch from d ends, first address past it
-abbrev upto : ℕ → Option ℕ → ℕ
+abbrev pub upto : ℕ → Option ℕ → ℕ
 upto last None = suc last
 upto last (Some e) = e
 
@@ -69,11 +69,11 @@ past last R d None a h = omega arith
 past last R d (Some e) a h = a.1
 
 -- what covers is the same before the next boundary, so all is the same
-covers-same : (last : ℕ) (R : List Rule) (d k : ℕ) (o : Option ℕ) → LeastAbove last d (Boundary R) o → d ≤ k → k < upto last o → (r : Rule) → In r R → covers r d ≡ covers r k
+pub covers-same : (last : ℕ) (R : List Rule) (d k : ℕ) (o : Option ℕ) → LeastAbove last d (Boundary R) o → d ≤ k → k < upto last o → (r : Rule) → In r R → covers r d ≡ covers r k
 covers-same last R d k None a h l r i = let p = a r.start (r, (i, inl refl)) in let q = a (suc r.finish) (r, (i, inr refl)) in grind (arith, nat_tests)
 covers-same last R d k (Some e) a h l r i = let p = a.3 r.start (r, (i, inl refl)) in let q = a.3 (suc r.finish) (r, (i, inr refl)) in let m = a.2 in grind (arith, nat_tests)
 
-best-same : (lt : Rule → Rule → Bool) (p q : Rule → Bool) (R : List Rule) → ((r : Rule) → In r R → p r ≡ q r) → best lt p R ≡ best lt q R
+pub best-same : (lt : Rule → Rule → Bool) (p q : Rule → Bool) (R : List Rule) → ((r : Rule) → In r R → p r ≡ q r) → best lt p R ≡ best lt q R
 unfolding best
 best-same lt p q [] h = refl
 best-same lt p q (x ∷ xs) h = rw (h x (inl refl), best-same lt p q xs (λ r i. h r (inr i)))

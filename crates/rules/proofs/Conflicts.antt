@@ -8,7 +8,7 @@ use Rattle.rules.specs.Conflicts.{Cross, Filled, MostSpecific, ResolvedAt, Resol
 use Rattle.rules.proofs.Members.{covers_tells, same_tells, in_same, in_insert_old, in_insert_new, in_insert_keep, in_delete, in_delete_keep}
 use Rattle.rules.proofs.Search.{best_is, earlier_ranks, closer_ranks, same_found-decides, agree-least, least-agree, no_inner}
 
-decides_covers : (d : ℕ) (r : Rule) → Decides (covers r d) (Covers r d)
+pub decides_covers : (d : ℕ) (r : Rule) → Decides (covers r d) (Covers r d)
 decides_covers d r = ((λ e. grind (arith, nat_tests)), λ c. grind (arith, nat_tests))
 
 pub least_finish_is : (R : List Rule) (d : ℕ) → Best earlier (λ r. Covers r d) R (least_finish R d)
@@ -26,7 +26,7 @@ most_specific_complete R c d = least-agree (λ r. covers r d) (λ r. Covers r d)
 pub resolved_at_decides : (R : List Rule) (d : ℕ) → Decides (resolved_at R d) (ResolvedAt R d)
 resolved_at_decides R d = same_found-decides (λ r. covers r d) (λ r. Covers r d) (decides_covers d) R
 
-resolved_from_decides : (R : List Rule) (n d : ℕ) → Decides (resolved_from R d n) ((k : ℕ) → d ≤ k → k < d + n → ResolvedAt R k)
+pub resolved_from_decides : (R : List Rule) (n d : ℕ) → Decides (resolved_from R d n) ((k : ℕ) → d ≤ k → k < d + n → ResolvedAt R k)
 unfolding resolved_from
 resolved_from_decides R zero d = ((λ e k a b. absurd (omega arith)), λ h. refl)
 resolved_from_decides R (suc n) d =
@@ -68,13 +68,13 @@ pub free_from_filled : (R : List Rule) → AllFilled R → ConflictFree R
 free_from_filled R fill d = free_at R d fill (least_finish R d) (greatest_start R d) (least_finish_is R d) (greatest_start_is R d)
 
 -- locality: an address that r does not cover has what it had
-resolved_insert_away : (R : List Rule) (r : Rule) (d : ℕ) → Absent r R → (Covers r d → ⊥) → ResolvedAt R d → ResolvedAt (insert r R) d
+pub resolved_insert_away : (R : List Rule) (r : Rule) (d : ℕ) → Absent r R → (Covers r d → ⊥) → ResolvedAt R d → ResolvedAt (insert r R) d
 resolved_insert_away R r d a n c q =
     let old : (s : Rule) → In s (insert r R) → Covers s d → In s R = λ s h k. elim (in_insert_old r R s h) [ inl e ↦ absurd (n (rw e at k)) | inr m ↦ m ] in
     let t = c (q.0, (old q.0 q.1.0 q.1.1, q.1.1)) in
     (t.0, record { held = in_insert_keep r R t.0 (a t.0 t.1.held) t.1.held; fits = t.1.fits; least = λ s h k. t.1.least s (old s h k) k })
 
-resolved_delete_away : (R : List Rule) (u v d : ℕ) → (Covers (range u v) d → ⊥) → ResolvedAt R d → ResolvedAt (delete u v R) d
+pub resolved_delete_away : (R : List Rule) (u v d : ℕ) → (Covers (range u v) d → ⊥) → ResolvedAt R d → ResolvedAt (delete u v R) d
 resolved_delete_away R u v d n c q =
     let t = c (q.0, ((in_delete u v R q.0 q.1.0).0, q.1.1)) in
     (t.0, record { held = in_delete_keep u v R t.0 t.1.held (λ e. n (omega (arith, t.1.fits))); fits = t.1.fits; least = λ s h k. t.1.least s (in_delete u v R s h).0 k })
@@ -127,11 +127,11 @@ pub one_agree : (R : List Rule) (d : ℕ) (r : Rule) → least_finish R d ≡ So
 one_agree R d r e k = let t : same r r ≡ true = grind (arith, nat_tests) in most_specific_sound R d r (rw (e, k, t))
 
 -- every range of R is one of S
-abbrev RangesIn : List Rule → List Rule → Type 0
+abbrev pub RangesIn : List Rule → List Rule → Type 0
 RangesIn R S = (s : Rule) → In s R → (t : Rule) × (In t S × Same s t)
 
 -- what conflicts goes by ranges alone
-free_by_ranges : (R S : List Rule) → RangesIn R S → RangesIn S R → ConflictFree R → ConflictFree S
+pub free_by_ranges : (R S : List Rule) → RangesIn R S → RangesIn S R → ConflictFree R → ConflictFree S
 free_by_ranges R S f g free d c =
     let q = g c.0 c.1.0 in
     let t = free d (q.0, (q.1.0, let a = c.1.1 in let e = q.1.1 in omega arith)) in

@@ -14,8 +14,12 @@ pub fn nearer<A: AddressKind>(d: A, boundary: A, known: Option<A>) -> Option<A>
         return known;
     }
     match known {
-        Some(nearest) if nearest < boundary => known,
-        _ => Some(boundary),
+        Some(nearest) => Some(if nearest < boundary {
+            nearest
+        } else {
+            boundary
+        }),
+        None => Some(boundary),
     }
 }
 

@@ -4,7 +4,7 @@ ghost use Rattle.std.specs.Prelude.{◌≡◌};
 ghost use Rattle.rules.specs.Rules.{is_default};
 
 use address::AddressKind;
-use std::cmp::{Ordering, Reverse};
+use std::cmp::Ordering;
 
 /// Addresses from `start` to `finish`, both included, go out on the line `hop`.
 #[derive(Clone, Copy, PartialEq, Eq, Debug)]
@@ -26,18 +26,22 @@ impl<A: AddressKind> Rule<A> {
     }
 
     /// How the two stand in canonical order, where rules of one range are equal, whatever their hops.
-    // By std's order of tuples: a derived order would count the hop.
+    // A derived order would count the hop, and the order of a tuple compares both ends at each step of a search.
     pub fn order(&self, other: &Rule<A>) -> Ordering
         ensures { result ≡ order (numbered A.AddressKind.num self.now) (numbered A.AddressKind.num other.now) }
     {
-        (self.finish, Reverse(self.start)).cmp(&(other.finish, Reverse(other.start)))
+        if self.finish == other.finish {
+            other.start.cmp(&self.start)
+        } else {
+            self.finish.cmp(&other.finish)
+        }
     }
 
     /// Whether the rule stands before the other in canonical order: by ascending finish, equal finishes by descending start.
     pub fn is_before(&self, other: &Rule<A>) -> bool
         ensures { result ≡ earlier (numbered A.AddressKind.num self.now) (numbered A.AddressKind.num other.now) }
     {
-        (self.finish, Reverse(self.start)) < (other.finish, Reverse(other.start))
+        self.finish < other.finish || self.finish == other.finish && other.start < self.start
     }
 }
 

@@ -82,7 +82,7 @@ pub trait Table: RangeStore {
         if resolved_between(self, Self::Kind::first(), Self::Kind::last()) {
             return Ok(n);
         }
-        undo(self, &list[..n]);
+        undo(self, list, n);
         Err(Refusal::Conflict)
     }
 

@@ -70,7 +70,7 @@ unfolding first_with first
 first_is p [] = refl
 first_is p (x ∷ xs) = ap (λ o. cond (p x) (Some x) o) (first_is p xs)
 
-least_is_first : (R : List Rule) (d : ℕ) → Canonical R → least_finish R d ≡ first_with (λ r. covers r d) R
+pub least_is_first : (R : List Rule) (d : ℕ) → Canonical R → least_finish R d ≡ first_with (λ r. covers r d) R
 least_is_first R d c = first_is_best (λ r. covers r d) R c ∙ sym (first_is (λ r. covers r d) R)
 
 -- the least start tells whether a rule starts by d

@@ -25,7 +25,7 @@ in_parts (x ∷ xs) ys r (inl e) = inl (inl e)
 in_parts (x ∷ xs) ys r (inr i) = elim (in_parts xs ys r i) [ inl k ↦ inl (inr k) | inr k ↦ inr k ]
 
 -- no stored rule goes past the last address
-rules-bounded : {A : Type 0} (num : A → ℕ) (last : ℕ) → ((x : A) → num x ≤ last) → (t : RuleTree A) → Bounded last (rules_in num t)
+pub rules-bounded : {A : Type 0} (num : A → ℕ) (last : ℕ) → ((x : A) → num x ≤ last) → (t : RuleTree A) → Bounded last (rules_in num t)
 rules-bounded num last b leaf r i = elim i [ ]
 rules-bounded num last b (node l k x u) r i =
     elim (in_parts (rules_in num l) (numbered num x ∷ rules_in num u) r i) [

@@ -2,6 +2,7 @@ use Rattle.std.proofs.Common.{◌≡◌, ℕ, zero, suc, ◌/◌, ◌%◌, ◌^�
 use Rattle.std.specs.Int.{bytes_high_first, byte_at}
 use Rattle.std.proofs.Math.Nat.{div-div-eq-div-mul}
 use Rattle.byte_form.specs.Bytes.{bytes_of}
+use Rattle.byte_form.specs.BytesLemmas.{bytes_append}
 use Rattle.byte_form.proofs.feed_kind.Ipv6FeedKind.write_bytes.Goals as goal
 
 byte_up : (i n : ℕ) → byte_at (suc i) n ≡ byte_at i (n / 256)
@@ -20,6 +21,8 @@ high_first (suc w) n = push w n ∙ ap (λ bs. bs ++ (n % 256 ∷ [])) (high_fir
 
 pub returns-clause-after : goal.returns-clause-after
 returns-clause-after c =
-    let n = c.copy_from_slice.ensures.after ∙ c.to_be_bytes.ensures ∙ high_first 16 c.from.result ∙ ap (bytes_of 16) c.from.ensures in
+    let self = c.args.self in
+    let h = c.copy_from_slice.ensures.after ∙ c.to_be_bytes.ensures ∙ high_first 8 c.high.result ∙ ap (bytes_of 8) c.high.ensures in
+    let l = c.copy_from_slice-2.ensures.after ∙ c.to_be_bytes-2.ensures ∙ high_first 8 c.low.result ∙ ap (bytes_of 8) c.low.ensures in
     let t : eqb (length c.args.out.now) 16 ≡ true = eq-eqb (length c.args.out.now) 16 (omega arith) in
-    rw t n
+    rw t (ap₂ ◌++◌ h l ∙ sym (bytes_append 8 8 self.high self.low self.high_ok self.low_ok))

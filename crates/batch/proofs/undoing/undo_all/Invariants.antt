@@ -1,6 +1,6 @@
 use Rattle.std.proofs.Common.{◌≡◌}
 use Rattle.batch.specs.Applied.{unwind}
-use Rattle.batch.proofs.undoing.undo.Given as goal
+use Rattle.batch.proofs.undoing.undo_all.Given as goal
 
 -- what is left to take back leads to the same rules
 abbrev pub invariant-loop-staged : goal.invariant-loop-staged
